@@ -1,0 +1,5 @@
+pub mod Logic
+pub mod Tests
+pub mod BitLaws
+pub mod Match
+pub mod Meaning

@@ -1,0 +1,18 @@
+-- `bits::matches` meets its contract: one law for each way out.
+-- Assumes nothing.
+use borrow.Author.Needs.{needs}
+use Rattle.bits.proofs.Match.{by-or, by-and}
+use Rattle.bits.proofs.matches.Statement.{statement}
+use Rattle.bits.proofs.matches.Tie as tie
+
+active-lines-requires : tie.Need-active-lines-requires
+active-lines-requires c κs = search needs
+
+returns : tie.Need-returns
+returns c = search by-and
+
+returns-2 : tie.Need-returns-2
+returns-2 c = search by-or
+
+pub matches-spec : {M : Type 1} → statement M
+matches-spec = tie.close (tie.spec active-lines-requires returns returns-2)

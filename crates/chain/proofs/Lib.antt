@@ -1,0 +1,4 @@
+pub mod Places
+pub mod Flat
+pub mod Marks
+pub mod Scans

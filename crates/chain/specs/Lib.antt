@@ -1,0 +1,4 @@
+pub mod Places
+pub mod Chain
+pub mod Decode
+pub mod Marks

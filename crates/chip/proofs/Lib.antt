@@ -1,0 +1,5 @@
+pub mod Ways
+pub mod Keep
+pub mod Touch
+pub mod Mode2
+pub mod Meaning

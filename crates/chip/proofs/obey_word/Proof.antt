@@ -1,0 +1,15 @@
+-- `chip::obey_word` meets its contract.
+-- Assumes nothing.
+use borrow.Author.Needs.{needs}
+use Rattle.chip.proofs.Ways.{obey-b, obey-a}
+use Rattle.chip.proofs.obey_word.Statement.{statement}
+use Rattle.chip.proofs.obey_word.Tie as tie
+
+pub obey-word-spec : {M : Type 1} → statement M
+obey-word-spec =
+    tie.close
+    (tie.spec
+    (λ c κs. search needs)
+    (λ c. search obey-b)
+    (λ c κs. search needs)
+    (λ c. search obey-a))

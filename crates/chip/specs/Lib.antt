@@ -1,0 +1,3 @@
+pub mod Chip
+pub mod Sound
+pub mod Act

@@ -1,0 +1,18 @@
+-- `port::hear` meets its contract: the tests on the way out are the definition's own.
+-- Assumes nothing.
+use Rattle.bits.proofs.Tests.{tests}
+use Rattle.port.proofs.hear.Statement.{statement}
+use Rattle.port.proofs.hear.Tie as tie
+
+pub hear-spec : {M : Type 1} → statement M
+hear-spec =
+    tie.close
+    (tie.spec
+    (λ c. search tests depth 20)
+    (λ c. search tests depth 20)
+    (λ c. search tests depth 20)
+    (λ c. search tests depth 20)
+    (λ c. search tests depth 20)
+    (λ c. search tests depth 20)
+    (λ c. search tests depth 20)
+    (λ c. search tests depth 20))

@@ -1,0 +1,17 @@
+-- `port::matching` meets its contract.
+-- Assumes nothing.
+use Rattle.port.specs.Rules.{matchNow}
+use borrow.Author.Needs.{needs}
+use Rattle.port.proofs.matching.Statement.{statement}
+use Rattle.port.proofs.matching.Tie as tie
+
+returns : tie.Need-returns
+unfolding matchNow
+returns c = rw (c .matches .ensures)
+
+pub matching-spec : {M : Type 1} → statement M
+matching-spec =
+    tie.close
+    (tie.spec
+    (λ c κs. search needs)
+    returns)

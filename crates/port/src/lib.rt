@@ -1,0 +1,324 @@
+// One port of a PIO: its registers, and what each control word, data access, strobe edge and line change makes of them.
+// Document 01, "Control words" and "Data, handshake, bits". What a port needs to know of the other port of its chip comes as a flag.
+ghost use mathlib.Core.Path.{_≡_};
+ghost use Rattle.port.specs.Words.{heardOf, codeOf, obeyed};
+ghost use Rattle.port.specs.Rules.{written, shownOf, accessed, strobed, linesNow, drivenOf, levelsNow, matchNow, settled, woken, served, released, cleared, freshPort};
+ghost use Rattle.port.specs.Sound.{soundOf};
+
+#[repr(C)]
+pub struct Port {
+    pub mode: u8,
+    pub out: u8,
+    pub input: u8,
+    pub lines: u8,
+    pub strobe: bool,
+    pub ready: bool,
+    pub vector: u8,
+    pub select: u8,
+    pub mask: u8,
+    pub all: bool,
+    pub high: bool,
+    pub asked: bool,
+    pub live: bool,
+    pub waiting: bool,
+    pub service: bool,
+    pub awaiting: u8,
+    pub matched: bool,
+}
+
+// A control word of a defined form.
+pub enum Word {
+    Vector(u8),
+    Mode(u8),
+    Interrupt {
+        enable: bool,
+        all: bool,
+        high: bool,
+        masked: bool,
+    },
+    Enable(bool),
+    Select(u8),
+    Mask(u8),
+}
+
+// What a control byte means to a port: a word, or one of the two refusals.
+pub enum Heard {
+    Said(Word),
+    NoForm,
+    NotOnB,
+}
+
+// What the byte means to a port that awaits nothing (0), its select word (1) or its mask (2).
+pub fn hear(awaiting: u8, on_b: bool, value: u8) -> Heard
+    ensures { λ r. ⌜ r ≡ heardOf awaiting «on_b» value ⌝ }
+{
+    if awaiting == 1 {
+        return Heard::Said(Word::Select(value));
+    }
+    if awaiting == 2 {
+        return Heard::Said(Word::Mask(value));
+    }
+    if value % 2 == 0 {
+        return Heard::Said(Word::Vector(value));
+    }
+    if value % 16 == 15 {
+        if on_b & (value / 64 == 2) {
+            return Heard::NotOnB;
+        }
+        return Heard::Said(Word::Mode(value / 64));
+    }
+    if value % 16 == 7 {
+        return Heard::Said(Word::Interrupt {
+            enable: value / 128 % 2 == 1,
+            all: value / 64 % 2 == 1,
+            high: value / 32 % 2 == 1,
+            masked: value / 16 % 2 == 1,
+        });
+    }
+    if value % 16 == 3 {
+        return Heard::Said(Word::Enable(value / 128 % 2 == 1));
+    }
+    Heard::NoForm
+}
+
+// The number of what was heard: 0 for a word, and document 01's number for a refusal.
+pub fn code(h: Heard) -> u8
+    ensures { λ r. ⌜ r ≡ codeOf h ⌝ }
+{
+    match h {
+        Heard::Said(_) => 0,
+        Heard::NoForm => 19,
+        Heard::NotOnB => 20,
+    }
+}
+
+// The port obeys a word. `linked`: it is B, and A of its chip is in mode 2.
+pub fn obey(p: Port, linked: bool, w: Word) -> Port
+    ensures { λ r. ⌜ r ≡ obeyed linked p w ⌝ }
+{
+    let mut q = p;
+    match w {
+        Word::Vector(v) => {
+            q.vector = v;
+        }
+        Word::Mode(m) => {
+            q.mode = m;
+            q.ready = p.ready & linked;
+            if m == 3 {
+                q.awaiting = 1;
+            } else {
+                q.awaiting = 0;
+            }
+        }
+        Word::Interrupt {
+            enable,
+            all,
+            high,
+            masked,
+        } => {
+            q.asked = enable;
+            q.all = all;
+            q.high = high;
+            if masked {
+                q.live = false;
+                q.waiting = false;
+                q.awaiting = 2;
+            } else {
+                q.live = enable & p.live;
+            }
+        }
+        Word::Enable(on) => {
+            q.asked = on;
+            q.live = on & p.live;
+        }
+        Word::Select(v) => {
+            q.select = v;
+            q.awaiting = 0;
+        }
+        Word::Mask(v) => {
+            q.mask = v;
+            q.awaiting = 0;
+        }
+    }
+    q
+}
+
+// The CPU writes data. `off`: the port's own handshake is off.
+pub fn write(p: Port, off: bool, value: u8) -> Port
+    ensures { λ r. ⌜ r ≡ written off value p ⌝ }
+{
+    let mut q = p;
+    q.out = value;
+    q.ready = p.ready | (!off & ((p.mode == 0) | (p.mode == 2)));
+    q
+}
+
+// The byte that the CPU reads.
+pub fn shown(p: Port) -> u8
+    ensures { λ r. ⌜ r ≡ shownOf p ⌝ }
+{
+    if p.mode == 0 {
+        return p.out;
+    }
+    if p.mode == 3 {
+        return bits::mixed(p.select, p.lines, p.out);
+    }
+    p.input
+}
+
+// The port after the CPU has read it. `off`: the port's own handshake is off.
+pub fn access(p: Port, off: bool) -> Port
+    ensures { λ r. ⌜ r ≡ accessed off p ⌝ }
+{
+    let mut q = p;
+    q.ready = p.ready | (!off & (p.mode == 1));
+    q
+}
+
+// The Strobe line goes to `level`. `acts`: its rise ends a handshake.
+pub fn strobe(p: Port, acts: bool, level: bool) -> Port
+    ensures { λ r. ⌜ r ≡ strobed acts level p ⌝ }
+{
+    let ends = !p.strobe & level & acts;
+    let mut q = p;
+    q.strobe = level;
+    q.ready = p.ready & !ends;
+    q.waiting = p.waiting | ends;
+    q
+}
+
+// The outside levels of the eight lines.
+pub fn set_lines(p: Port, value: u8) -> Port
+    ensures { λ r. ⌜ r ≡ linesNow value p ⌝ }
+{
+    let mut q = p;
+    q.lines = value;
+    q
+}
+
+// A 1 for each line that the port drives.
+pub fn driven(p: Port) -> u8
+    ensures { λ r. ⌜ r ≡ drivenOf p ⌝ }
+{
+    if p.mode == 0 {
+        return 255;
+    }
+    if p.mode == 2 {
+        return if p.strobe { 0 } else { 255 };
+    }
+    if p.mode == 3 {
+        return !p.select;
+    }
+    0
+}
+
+// The levels of the driven lines, 0 on the others.
+pub fn levels(p: Port) -> u8
+    ensures { λ r. ⌜ r ≡ levelsNow p ⌝ }
+{
+    let mask = driven(p);
+    bits::levels(p.out, mask)
+}
+
+// Whether the lines match now, which they do only in mode 3 with no word awaited.
+pub fn matching(p: Port) -> bool
+    ensures { λ r. ⌜ r ≡ matchNow p ⌝ }
+{
+    (p.mode == 3) & (p.awaiting == 0) & bits::matches(p.select, p.mask, p.lines, p.high, p.all)
+}
+
+// After an accepted event. `follows`: the input register follows the lines; `watched`: the port's own match is on.
+pub fn settle(p: Port, follows: bool, watched: bool) -> Port
+    ensures { λ r. ⌜ r ≡ settled follows watched p ⌝ }
+{
+    let now = matching(p) & watched;
+    let mut q = p;
+    q.matched = now;
+    q.waiting = p.waiting | (now & !p.matched);
+    if follows {
+        q.input = p.lines;
+    }
+    q
+}
+
+// A fetch.
+pub fn wake(p: Port) -> Port
+    ensures { λ r. ⌜ r ≡ woken p ⌝ }
+{
+    let mut q = p;
+    q.live = p.live | (p.asked & !(p.awaiting == 2));
+    q
+}
+
+// The port answers an acknowledge.
+pub fn serve(p: Port) -> Port
+    ensures { λ r. ⌜ r ≡ served p ⌝ }
+{
+    let mut q = p;
+    q.waiting = false;
+    q.service = true;
+    q
+}
+
+// RETI ends the port's service.
+pub fn release(p: Port) -> Port
+    ensures { λ r. ⌜ r ≡ released p ⌝ }
+{
+    let mut q = p;
+    q.service = false;
+    q
+}
+
+// A reset.
+pub fn reset(p: Port) -> Port
+    ensures { λ r. ⌜ r ≡ cleared p ⌝ }
+{
+    let mut q = p;
+    q.mode = 1;
+    q.ready = false;
+    q.mask = 255;
+    q.out = 0;
+    q.asked = false;
+    q.live = false;
+    q.waiting = false;
+    q.service = false;
+    q.awaiting = 0;
+    q.matched = false;
+    q
+}
+
+// A port of a fresh board.
+pub fn fresh() -> Port
+    ensures { λ r. ⌜ r ≡ freshPort ⌝ }
+{
+    Port {
+        mode: 1,
+        out: 0,
+        input: 0,
+        lines: 0,
+        strobe: true,
+        ready: false,
+        vector: 0,
+        select: 0,
+        mask: 255,
+        all: false,
+        high: false,
+        asked: false,
+        live: false,
+        waiting: false,
+        service: false,
+        awaiting: 0,
+        matched: false,
+    }
+}
+
+// What a sound board asks of one port.
+pub fn sound(p: Port, on_b: bool, follows: bool, watched: bool) -> bool
+    ensures { λ r. ⌜ r ≡ soundOf «on_b» follows watched p ⌝ }
+{
+    (((p.mode < 4) & !(on_b & (p.mode == 2)))
+        & (p.vector % 2 == 0)
+        & (!p.live | p.asked)
+        & ((p.awaiting < 3) & (!(p.awaiting == 1) | (p.mode == 3)) & !(p.live & (p.awaiting == 2))))
+        & ((p.matched == (matching(p) & watched)) & (!follows | (p.input == p.lines)))
+}
