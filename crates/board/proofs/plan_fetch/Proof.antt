@@ -1,0 +1,20 @@
+-- `board::plan_fetch` meets its contract.
+-- Assumes nothing.
+use borrow.Author.Needs.{needs}
+use Rattle.board.proofs.Plans.{fetch-plain, fetch-none, fetch-some}
+use Rattle.board.proofs.plan_fetch.Statement.{statement}
+use Rattle.board.proofs.plan_fetch.Tie as tie
+
+pub plan-fetch-spec : {M : Type 1} → statement M
+plan-fetch-spec =
+    tie.close
+    (tie.spec
+    (λ c κs. search needs)
+    (λ c κs. search needs)
+    (λ c. search fetch-plain)
+    (λ c κs. search needs)
+    (λ c κs. search needs)
+    (λ c. search fetch-none)
+    (λ c. search needs)
+    (λ c κs. search needs)
+    (λ c. search fetch-some))

@@ -1,0 +1,4 @@
+pub mod Splices
+pub mod Decimals
+pub mod Rows
+pub mod Examples

@@ -1,0 +1,4 @@
+pub mod Text
+pub mod Splice
+pub mod Digits
+pub mod Rows
