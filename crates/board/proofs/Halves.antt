@@ -69,7 +69,7 @@ unfolding refusal earlyOf
 refusal-is b e s = rw s (three-first (ltb 7 (kindOf e)) (placeBad (b .size) (kindOf e) (placeOf e)) (valueBad (kindOf e) (valueOf e) (lastOf e)) (wordLines b e))
 
 -- no early refusal: the place is on the board
-place-there : (size kind place value last : ℕ) → (earlyOf size kind place value last is 0) ≡ true → place < size * 2
+pub place-there : (size kind place value last : ℕ) → (earlyOf size kind place value last is 0) ≡ true → place < size * 2
 unfolding earlyOf
 place-there size kind place value last h =
     ltb-true place (size * 2) (go (ltb 7 kind) (ltb place (size * 2)) (ltb kind 3 && not (place is 0)) (valueBad kind value last) h)
@@ -165,13 +165,13 @@ unfolding stepOf refused if_then_else_
 step-refuses b e code l r z s = rw (l, r, z, s)
 
 module _ (b : Board) (s : soundBoard b ≡ true) (len : length (b .chips) ≡ most) where
-  size-fits : b .size ≤ most
+  pub size-fits : b .size ≤ most
   size-fits = leb-true (b .size) most (both (leb 1 (b .size)) (leb (b .size) most) (parts b s .0) .1)
 
   there-length : length (there b) ≡ b .size
   there-length = omega (arith, length-take (b .size) (b .chips), len, size-fits)
 
-  places : length (ports b) ≡ b .size * 2
+  pub places : length (ports b) ≡ b .size * 2
   places = omega (arith, flat-length (there b), there-length)
 
   pub port-there : (place : ℕ) → place < b .size * 2 → portAt b place ≡ port (sideOf place) (getD (b .chips) (place / 2) blank)

@@ -151,7 +151,7 @@ pub fn look_over(size: u8, chips: [Chip; 4]) -> Look
 }
 
 // The request, by the marks.
-fn signal(marks: [u8; 4]) -> u8
+pub fn signal(marks: [u8; 4]) -> u8
     ensures { λ r. ⌜ r ≡ signalOf marks ⌝ }
 {
     let k = chain::caller(marks);

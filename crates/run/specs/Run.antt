@@ -38,15 +38,18 @@ answersOf b (e ∷ es) = bytesOf (stepOf b e .answer) ++ answersOf (stepOf b e .
 
 -- "Run refusals, in this order: 35 board not sound, 32 event length not a multiple of 4, 34 when the start plus the number of event
 -- records is more than the buffer's number of whole records". `events`, `room`: the lengths of the two buffers
-abbrev pub runLines : Board → ℕ → ℕ → ℕ → List Line
-runLines b events room start =
-    line (not (soundBoard b)) 35
+abbrev pub runLines : Bool → ℕ → ℕ → ℕ → List Line
+runLines sound events room start =
+    line (not sound) 35
     ∷ line (not (events % 4 is 0)) 32
     ∷ line (ltb (room / 4) (start + events / 4)) 34
     ∷ []
 
-unfoldable pub runRefusal : Board → ℕ → ℕ → ℕ → ℕ
-runRefusal b events room start = verdict (runLines b events room start)
+unfoldable pub refusalOf : Bool → ℕ → ℕ → ℕ → ℕ
+refusalOf sound events room start = verdict (runLines sound events room start)
+
+abbrev pub runRefusal : Board → ℕ → ℕ → ℕ → ℕ
+runRefusal b events room start = refusalOf (soundBoard b) events room start
 
 -- "Each leaves board and buffer untouched and reports 0 records. Otherwise all records are stepped, refused ones included; the run
 -- reports 0 with their number, and other buffer bytes stay". `old`: the answer buffer before

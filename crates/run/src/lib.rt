@@ -1,7 +1,120 @@
+// A run over many records. Document 01, "Records". The run looks the board over once and keeps its size, chips, decoder and marks in
+// locals: an event that concerns one chip moves that chip out and in, and a fetch that changes nothing touches no chip at all.
 use board::Board;
+ghost use mathlib.Core.Path.{_≡_};
+ghost use mathlib.Core.Bool.{Bool, true};
+ghost use Prim.Native.Nat.{_+_, _*_, _/_, _%_, _≤_};
+ghost use lib.ListN.{length};
+ghost use Rattle.buffers.specs.Splice.{splice};
+ghost use Rattle.board.specs.Board.{soundBoard};
+ghost use Rattle.board.specs.Halves.{lookOf};
+ghost use Rattle.run.specs.Run.{records, stepsOf, answersOf, refusalOf, ranOf, bufferOf};
 
+// The board after a run, its code, and the number of records.
 pub struct Ran {
     pub code: u8,
     pub records: usize,
     pub board: Board,
+}
+
+// The run's refusal, or 0, which says that there is room. No sum is formed that could be too large.
+fn refusal(sound: bool, events: usize, room: usize, start: usize) -> u8
+    ensures { λ r. ⌜ r ≡ refusalOf sound events room start ⌝ }
+    ensures { λ r. ⌜ (r ≡ 0 → (sound ≡ true) × ((events % 4 ≡ 0) × (start + events / 4 ≤ room / 4))) ⌝ }
+{
+    if !sound {
+        return 35;
+    }
+    if events % 4 != 0 {
+        return 32;
+    }
+    if start > room / 4 {
+        return 34;
+    }
+    if events / 4 > room / 4 - start {
+        return 34;
+    }
+    0
+}
+
+// All the records, on a sound board with room for their answers; `seen` is a look at the board.
+fn run_records(board: Board, seen: board::Look, events: &[u8], answers: &mut [u8], start: usize) -> Board
+    requires { ⌜ (seen ≡ lookOf (board .size) (board .chips)) × ((soundBoard board ≡ true) × (length (board .chips) ≡ 4)) ⌝ }
+    requires { ⌜ (length (now events) % 4 ≡ 0) × (start + length (now events) / 4 ≤ length (now answers) / 4) ⌝ }
+    ensures { λ r. ⌜ r ≡ stepsOf board (records (now (events .entry))) ⌝ }
+    ensures { λ _. ⌜ now (answers .exit) ≡ splice (now (answers .entry)) (4 * start) (answersOf board (records (now (events .entry)))) ⌝ }
+    ensures { λ _. ⌜ length (now (answers .exit)) ≡ length (now (answers .entry)) ⌝ }
+{
+    let n = events.len() / 4;
+    let size = board.size;
+    let mut chips = board.chips;
+    let mut decoder = board.decoder;
+    let mut marks = seen.marks;
+    let mut request = board::signal(marks);
+    let mut due = seen.due;
+    let mut i: usize = 0;
+    while i < n {
+        let at = 4 * i;
+        let to = 4 * (start + i);
+        let next = i + 1;
+        let w = board::step_reads(size, decoder, marks, due, request, &events[at..at + 4]);
+        let d = w.decoder;
+        decoder = d;
+        i = next;
+        if w.whole {
+            let s = board::step_chips(size, chips, w);
+            let all = s.chips;
+            chips = all;
+            let ms = s.marks;
+            marks = ms;
+            request = s.answer.request;
+            due = false;
+            buffers::put_record(&mut answers[to..], s.answer.code, s.answer.place, s.answer.value, s.answer.request);
+            continue;
+        }
+        if !w.one {
+            buffers::put_record(&mut answers[to..], w.code, w.place, w.value, w.request);
+            continue;
+        }
+        let k = w.chip;
+        let c = chips[k];
+        let r = board::step_chip(c, w);
+        let m = r.chip;
+        chips[k] = m;
+        let ms = r.marks;
+        marks = ms;
+        request = r.answer.request;
+        due = due | r.due;
+        buffers::put_record(&mut answers[to..], r.answer.code, r.answer.place, r.answer.value, r.answer.request);
+    }
+    Board {
+        size: size,
+        chips: chips,
+        decoder: decoder,
+    }
+}
+
+// Steps all the records, refused ones included, and writes the answers from the record `start` of the buffer on; or refuses with
+// 35, 32 or 34, 0 records, and board and buffer as they were.
+pub fn run(board: Board, events: &[u8], answers: &mut [u8], start: usize) -> Ran
+    ensures { λ r. ⌜ r ≡ ranOf board (now (events .entry)) (now (answers .entry)) start ⌝ }
+    ensures { λ _. ⌜ now (answers .exit) ≡ bufferOf board (now (events .entry)) (now (answers .entry)) start ⌝ }
+{
+    let chips = board.chips;
+    let seen = board::look_over(board.size, chips);
+    let code = refusal(seen.sound, events.len(), answers.len(), start);
+    if code != 0 {
+        return Ran {
+            code: code,
+            records: 0,
+            board: board,
+        };
+    }
+    let n = events.len() / 4;
+    let after = run_records(board, seen, events, answers, start);
+    Ran {
+        code: 0,
+        records: n,
+        board: after,
+    }
 }

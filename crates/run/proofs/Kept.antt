@@ -1,0 +1,206 @@
+-- What the run's locals keep beside the board: that it is sound, its marks, its request, and whether a fetch could change it. Each of
+-- the three ways that a record goes is the step, and keeps all of it.
+-- Assumes nothing.
+use mathlib.Core.Path.{_≡_, refl, sym, ap, ap₂, subst, _∙_}
+use mathlib.Core.Bool.{Bool, true, false, _&&_, _||_, not, false≢true, true≢false}
+use mathlib.Core.List.{List, [], _∷_, _++_, map}
+use Prim.Native.Nat.{ℕ, zero, suc, _*_, _/_, _%_, _-_, _≤_, _<_}
+use native.Mathlib.Omega.{arith}
+use lib.Dec.{ltb, leb}
+use lib.ListN.{length, length-map, length-take, length-drop, length-append, length-set, getD, set, take, drop}
+use lib.Seq.{take-set-lt, length-front}
+use borrow.Author.Tests.{ltb-true, leb-true, lt-ltb}
+use Rattle.bits.specs.Bits.{if_then_else_, _is_}
+use Rattle.bits.proofs.Logic.{byCases, both}
+use Rattle.bits.proofs.Tests.{if-on, if-off}
+use Rattle.port.specs.Rules.{woken}
+use Rattle.chip.specs.declared.Chip.{Chip}
+use Rattle.chip.specs.declared.Acted.{Acted}
+use Rattle.chip.specs.Chip.{settle}
+use Rattle.chip.specs.Chip as chip
+use Rattle.chain.specs.declared.Decoder.{Decoder}
+use Rattle.chain.specs.Chain.{flat, asker, asks, holder}
+use Rattle.chain.specs.Decode.{retiOf}
+use Rattle.chain.specs.Marks.{markOf, marksOf, callerOf, holderOf}
+use Rattle.chain.proofs.Marks.{caller-is, holder-is, marks-set}
+use Rattle.board.specs.declared.Board.{Board}
+use Rattle.board.specs.declared.Stepped.{Stepped}
+use Rattle.board.specs.declared.Plan.{Plan}
+use Rattle.board.specs.declared.Changed.{Changed}
+use Rattle.board.specs.declared.Swept.{Swept}
+use Rattle.board.specs.Board.{most, there, ports, within, soundBoard}
+use Rattle.board.specs.Step.{kindOf, placeOf, valueOf, lastOf, stepOf}
+use Rattle.board.specs.Halves.{stirs, signalOf, earlyOf, earlyAt, fetchPlan, acknowledgePlan, acceptedPlan, planOf, touchedOf, withActed, changedOf, blank, sweepOf, freedOf, sweptOf, wholly, singly, idly, carried}
+use Rattle.board.proofs.There.{take-within}
+use Rattle.board.proofs.Quick.{step-sound}
+use Rattle.board.proofs.Halves.{Still, size-fits, places, place-there, halves}
+use Rattle.board.proofs.Steps.{quiet-chip, carried-whole, carried-single, carried-idle}
+
+pub record Kept (b : Board) (marks : List ℕ) (request : ℕ) (due : Bool) : Type 0 where
+  pub sound : soundBoard b ≡ true
+  pub row : length (b .chips) ≡ most
+  pub marked : marks ≡ marksOf (b .size) (b .chips)
+  pub asked : request ≡ signalOf marks
+  pub still : due ≡ false → Still (there b)
+
+-- ---- the chip that a plan names is on the board
+by-if : (P : Plan → Type 0) (t : Bool) (x y : Plan) → (t ≡ true → P x) → (t ≡ false → P y) → P (if t then x else y)
+unfolding if_then_else_
+by-if P true x y f g = f refl
+by-if P false x y f g = g refl
+
+choice-found : (t : Bool) (k : ℕ) → ((if t then suc k else 0) is 0) ≡ false → t ≡ true
+unfolding if_then_else_
+choice-found true k e = refl
+choice-found false k e = absurd (true≢false e)
+
+module _ (b : Board) (s : soundBoard b ≡ true) (len : length (b .chips) ≡ most) (due : Bool) (request : ℕ) (e : List ℕ) where
+  abbrev marks : List ℕ
+  marks = marksOf (b .size) (b .chips)
+
+  abbrev Fits : Plan → Type 0
+  Fits w = (w .marks ≡ marks) × (w .one ≡ true → w .chip < b .size)
+
+  chip-fits : (place : ℕ) → place < b .size * 2 → place / 2 % most < b .size
+  chip-fits place h = omega (arith, size-fits b s len)
+
+  holder-fits : (holderOf marks is 0) ≡ false → (holderOf marks - 1) / 2 % most < b .size
+  holder-fits z =
+      let t = choice-found (ltb (holder (ports b)) (length (ports b))) (holder (ports b)) (rw (holder-is (b .size) (b .chips)) at z) in
+      chip-fits (holderOf marks - 1) (omega (arith, holder-is (b .size) (b .chips) ∙ if-on _ _ _ t, ltb-true (holder (ports b)) (length (ports b)) t, places b s len))
+
+  caller-fits : (callerOf marks is 0) ≡ false → (callerOf marks - 1) / 2 % most < b .size
+  caller-fits z =
+      let t = choice-found (asks (ports b)) (asker (ports b)) (rw (caller-is (b .size) (b .chips)) at z) in
+      chip-fits (callerOf marks - 1) (omega (arith, caller-is (b .size) (b .chips) ∙ if-on _ _ _ t, ltb-true (asker (ports b)) (length (ports b)) t, places b s len))
+
+  no-one : false ≡ true → {n : ℕ} → n < b .size
+  no-one h = absurd (false≢true h)
+
+  fetch-fits : (v : ℕ) → Fits (fetchPlan (b .decoder) marks due v request)
+  unfolding fetchPlan
+  fetch-fits v =
+      by-if Fits (not (retiOf (b .decoder) v)) _ _ (λ t. (refl, λ h. no-one h)) (λ t.
+      by-if Fits (holderOf marks is 0) _ _ (λ z. (refl, λ h. no-one h)) (λ z. (refl, λ h. holder-fits z)))
+
+  acknowledge-fits : Fits (acknowledgePlan marks request)
+  unfolding acknowledgePlan
+  acknowledge-fits = by-if Fits (callerOf marks is 0) _ _ (λ z. (refl, λ h. no-one h)) (λ z. (refl, λ h. caller-fits z))
+
+  accepted-fits : (kind place v : ℕ) → place < b .size * 2 → Fits (acceptedPlan (b .decoder) marks due request kind place v)
+  unfolding acceptedPlan
+  accepted-fits kind place v l =
+      by-if Fits (kind is 1) _ _ (λ t. fetch-fits v) (λ t.
+      by-if Fits (kind is 0) _ _ (λ z. (refl, λ h. no-one h)) (λ z.
+      by-if Fits (kind is 2) _ _ (λ z. acknowledge-fits) (λ z. (refl, λ h. chip-fits place l))))
+
+  turned : (t : Bool) → not t ≡ false → t ≡ true
+  turned true n = refl
+  turned false n = sym n
+
+  plan-fits : Fits (planOf (b .size) (b .decoder) marks due request e)
+  unfolding planOf
+  plan-fits =
+      by-if Fits (not (length e is 4)) _ _ (λ t. (refl, λ h. no-one h)) (λ t.
+      by-if Fits (not (earlyAt (b .size) e is 0)) _ _ (λ z. (refl, λ h. no-one h)) (λ z.
+      accepted-fits (kindOf e) (placeOf e) (valueOf e) (place-there (b .size) (kindOf e) (placeOf e) (valueOf e) (lastOf e) (turned (earlyAt (b .size) e is 0) z))))
+
+-- ---- what the second half leaves, whatever the plan
+-- a fetch changes nothing of a chip that was just reset or fetched
+sweep-still : (kind : ℕ) (c : Chip) → chip.fetch (sweepOf kind c) ≡ sweepOf kind c
+unfolding if_then_else_
+sweep-still kind c = byCases (kind is 0) (λ e. rw e) (λ e. rw e (fetch-twice c))
+  where
+    again : (live asked t : Bool) → (live || (asked && t) || (asked && t)) ≡ (live || (asked && t))
+    again true asked t = refl
+    again false true true = refl
+    again false true false = refl
+    again false false t = refl
+    fetch-twice : (c : Chip) → chip.fetch (chip.fetch c) ≡ chip.fetch c
+    fetch-twice c = rw (again (c .a .live) (c .a .asked) (not (c .a .awaiting is 2)), again (c .b .live) (c .b .asked) (not (c .b .awaiting is 2)))
+
+map-still : (f : Chip → Chip) → ((c : Chip) → chip.fetch (f c) ≡ f c) → (cs : List Chip) → Still (map f cs)
+map-still f h [] = refl
+map-still f h (c ∷ cs) = rw (h c, map-still f h cs)
+
+free-length : (cs : List Chip) (w : Plan) → length (freedOf cs w) ≡ length cs
+unfolding if_then_else_
+free-length cs w = byCases (w .one) (λ t. rw t (length-set cs (w .chip) _)) (λ t. rw t)
+
+map-set : (f : Chip → Chip) (l : List Chip) (k : ℕ) (c : Chip) → map f (set l k c) ≡ set (map f l) k (f c)
+map-set f [] k c = refl
+map-set f (x ∷ l) zero c = refl
+map-set f (x ∷ l) (suc k) c = rw (map-set f l k c)
+
+set-still : (l : List Chip) (k : ℕ) (c : Chip) → Still l → chip.fetch c ≡ c → Still (set l k c)
+set-still l k c h e = map-set chip.fetch l k c ∙ ap₂ (λ (m : List Chip) (x : Chip). set m k x) h e
+
+neither : (x y : Bool) → (x || y) ≡ false → (x ≡ false) × (y ≡ false)
+neither true y e = absurd (true≢false e)
+neither false y e = (refl, e)
+
+-- ---- the three ways of a record
+module _ (b : Board) (marks : List ℕ) (request : ℕ) (due : Bool) (k : Kept b marks request due) (e : List ℕ) (byte : ltb (valueOf e) 256 ≡ true)
+    (w : Plan) (i : w ≡ planOf (b .size) (b .decoder) marks due request e) where
+  plan-is : w ≡ planOf (b .size) (b .decoder) (marksOf (b .size) (b .chips)) due (signalOf (marksOf (b .size) (b .chips))) e
+  plan-is = i ∙ ap₂ (λ (m : List ℕ) (r : ℕ). planOf (b .size) (b .decoder) m due r e) (k .marked) (k .asked ∙ ap signalOf (k .marked))
+
+  steps : carried b w ≡ stepOf b e
+  steps = ap (carried b) plan-is ∙ halves b (k .sound) (k .row) due (k .still) e
+
+  stays-sound : (x : Stepped) → x ≡ stepOf b e → soundBoard (x .board) ≡ true
+  stays-sound x h = rw h (step-sound b e byte (k .sound))
+
+  pub whole-steps : (s : Swept) → w .whole ≡ true → s ≡ sweptOf (b .size) (b .chips) w → wholly b w s ≡ stepOf b e
+  whole-steps s t h = ap (wholly b w) h ∙ carried-whole b w t ∙ steps
+
+  swept-keeps : w .whole ≡ true → Kept (wholly b w (sweptOf (b .size) (b .chips) w) .board) (sweptOf (b .size) (b .chips) w .marks) (sweptOf (b .size) (b .chips) w .answer .request) false
+  unfolding sweptOf
+  swept-keeps t =
+      let x = freedOf (b .chips) w in
+      let f = sweepOf (w .kind) in
+      let l = length-map (take (b .size) x) f in
+      record {
+        sound = stays-sound (wholly b w (sweptOf (b .size) (b .chips) w)) (whole-steps (sweptOf (b .size) (b .chips) w) t refl);
+        row = length-front x (map f (take (b .size) x)) (b .size) l ∙ free-length (b .chips) w ∙ k .row;
+        marked = refl;
+        asked = refl;
+        still = λ _. rw (take-within (b .size) (map f (take (b .size) x)) x l) (map-still f (sweep-still (w .kind)) (take (b .size) x));
+      }
+
+  pub whole-keeps : (s : Swept) → w .whole ≡ true → s ≡ sweptOf (b .size) (b .chips) w → Kept (wholly b w s .board) (s .marks) (s .answer .request) false
+  whole-keeps s t h = subst (λ (x : Swept). Kept (wholly b w x .board) (x .marks) (x .answer .request) false) (sym h) (swept-keeps t)
+
+  pub idle-steps : w .whole ≡ false → w .one ≡ false → idly b w ≡ stepOf b e
+  idle-steps t u = carried-idle b w t u ∙ steps
+
+  pub idle-keeps : Kept (idly b w .board) marks request due
+  unfolding soundBoard
+  idle-keeps = record { sound = k .sound; row = k .row; marked = k .marked; asked = k .asked; still = k .still }
+
+  pub single-steps : (r : Changed) → w .whole ≡ false → r ≡ changedOf (getD (b .chips) (w .chip) blank) w → singly b w r ≡ stepOf b e
+  single-steps r t h = ap (singly b w) h ∙ carried-single b w t ∙ steps
+
+  fits : (w .marks ≡ marksOf (b .size) (b .chips)) × (w .one ≡ true → w .chip < b .size)
+  fits = rw plan-is (plan-fits b (k .sound) (k .row) due (signalOf (marksOf (b .size) (b .chips))) e)
+
+  acted-keeps : (a : Acted) → w .whole ≡ false → w .one ≡ true → withActed w a ≡ changedOf (getD (b .chips) (w .chip) blank) w
+      → Kept (singly b w (withActed w a) .board) (withActed w a .marks) (withActed w a .answer .request) (due || withActed w a .due)
+  acted-keeps a t u h =
+      let l = fits .1 u in
+      record {
+        sound = stays-sound (singly b w (withActed w a)) (single-steps (withActed w a) t h);
+        row = length-set (b .chips) (w .chip) (a .chip) ∙ k .row;
+        marked = ap (λ (m : List ℕ). set m (w .chip) (markOf (a .chip))) (fits .0) ∙ sym (marks-set (b .size) (b .chips) (w .chip) (a .chip) l);
+        asked = refl;
+        still = λ z. let n = neither due (stirs (a .chip)) z in
+            rw (take-set-lt (b .size) (b .chips) (w .chip) (a .chip) l) (set-still (there b) (w .chip) (a .chip) (k .still (n .0)) (quiet-chip (a .chip) (n .1)));
+      }
+
+  pub single-keeps : (r : Changed) → w .whole ≡ false → w .one ≡ true → r ≡ changedOf (getD (b .chips) (w .chip) blank) w
+      → Kept (singly b w r .board) (r .marks) (r .answer .request) (due || r .due)
+  unfolding changedOf
+  single-keeps r t u h =
+      let a = touchedOf (getD (b .chips) (w .chip) blank) w in
+      let f = sym (if-on (w .one) (withActed w a) _ u) in
+      subst (λ (x : Changed). Kept (singly b w x .board) (x .marks) (x .answer .request) (due || x .due)) (f ∙ sym h) (acted-keeps a t u f)
