@@ -3,11 +3,11 @@
 use mathlib.Core.Path.{_≡_, refl, sym, ap, ap₂, _∙_, subst}
 use mathlib.Core.Bool.{Bool, true, false, _&&_, _||_, not, Bool·beq}
 use mathlib.Core.Logic.{⊎-elim}
-use Prim.Native.Nat.{ℕ, zero, suc, _+_, _-_, _/_, _%_, _^_, _≤_, _<_}
+use Prim.Native.Nat.{ℕ, zero, suc, _+_, _-_, _/_, _%_, _^_, _<_}
 use native.Mathlib.Nat.{mod-lt, zero-lt-suc, not-suc-le-zero, le-of-suc-le-suc, eq-or-lt-of-le, le-refl}
 use native.Mathlib.Omega.{arith}
 use lib.Dec.{T, eqb, eqb→eq}
-use lib.Bits.{bitAnd, bitOr, and-shr, and-mod, and-le-l, or-shr, or-mod, or-lt}
+use lib.Bits.{bitAnd, bitOr, and-shr, and-mod, and-le-l, or-shr, or-mod}
 use Rattle.bits.specs.Bits.{if_then_else_, bit, some, every, number}
 
 -- ---- a test at every number below n, which antt computes, holds at each of them

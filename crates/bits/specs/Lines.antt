@@ -1,7 +1,7 @@
 -- The eight lines of a port, line by line. Document 01, "Data, handshake, bits": match, read in mode 3, driven lines.
 -- Assumes nothing.
 use Prim.Native.Nat.{ℕ, _-_}
-use mathlib.Core.Bool.{Bool, true, false, _&&_, _||_, not, Bool·beq}
+use mathlib.Core.Bool.{Bool, _&&_, _||_, not, Bool·beq}
 use Rattle.bits.specs.Bits.{if_then_else_, bit, some, every, number}
 
 -- line k counts in the match: it is an input bit (select 1) with mask bit 0

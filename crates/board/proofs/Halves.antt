@@ -4,31 +4,30 @@ use mathlib.Core.Path.{_≡_, refl, sym, ap, ap₂, _∙_}
 use mathlib.Core.Bool.{Bool, true, false, _&&_, _||_, not, false≢true}
 use mathlib.Core.List.{List, [], _∷_, _++_, map}
 use Prim.Native.Nat.{ℕ, zero, suc, _*_, _/_, _%_, _-_, _≤_, _<_}
-use native.Mathlib.Nat.{not-suc-le-zero, le-of-suc-le-suc}
+use native.Mathlib.Nat.{not-suc-le-zero}
 use native.Mathlib.Omega.{arith}
 use lib.Dec.{ltb, leb}
 use lib.ListN.{length, length-map, length-take, getD, set, take, drop, take-append-drop}
 use lib.Seq.{set-getD, getD-take}
-use borrow.Author.Tests.{eq-eqb, ne-eqb, eqb-true, lt-ltb, le-ltb, ltb-true, ltb-false, leb-true}
+use borrow.Author.Tests.{ne-eqb, eqb-true, ltb-true, ltb-false, leb-true}
 use Rattle.bits.specs.Bits.{if_then_else_, _is_}
 use Rattle.bits.proofs.Logic.{byCases, both}
 use Rattle.bits.proofs.Tests.{if-on, if-off}
 use Rattle.port.specs.Words.{codeOf}
-use Rattle.port.specs.Rules.{shownOf, served, released}
+use Rattle.port.specs.Rules.{served, released}
 use Rattle.port.specs.declared.Port.{Port}
 use Rattle.port.specs.declared.Word.{Word}
 use Rattle.port.specs.declared.Heard.{Heard}
 use Rattle.port.specs.declared.Heard.the-variants.{Said, NoForm, NotOnB}
 use Rattle.chip.specs.declared.Chip.{Chip}
-use Rattle.chip.specs.declared.Acted.{Acted}
-use Rattle.chip.specs.Chip.{Side, A, B, side, isB, port, on, heard, Event, control, write, read, strobe, outside, release, serve}
+use Rattle.chip.specs.Chip.{Side, A, B, side, port, on, heard, Event, control, write, read, strobe, outside}
 use Rattle.chip.specs.Chip as chip
 use Rattle.chip.specs.Act.{eventOf, stepWord, step, codeAt, valueAt, actOf}
 use Rattle.chain.specs.declared.Decoder.{Decoder}
 use Rattle.chain.specs.Places.{first, adjust}
 use Rattle.chain.specs.Chain.{under, asking, asker, asks, holder, flat, sideOf, acknowledged, retired}
-use Rattle.chain.specs.Decode.{shut, nextOf, retiOf}
-use Rattle.chain.specs.Marks.{markOf, marksOf, callerOf, holderOf}
+use Rattle.chain.specs.Decode.{shut, retiOf}
+use Rattle.chain.specs.Marks.{markOf, marksOf}
 use Rattle.chain.proofs.Places.{adjust-length, adjust-beyond}
 use Rattle.chain.proofs.Flat.{flat-length}
 use Rattle.chain.proofs.Marks.{caller-is, holder-is, marks-set}
@@ -36,9 +35,9 @@ use Rattle.board.specs.declared.Board.{Board}
 use Rattle.board.specs.declared.Answer.{Answer}
 use Rattle.board.specs.declared.Stepped.{Stepped}
 use Rattle.board.specs.declared.Plan.{Plan}
-use Rattle.board.specs.Board.{most, there, ports, portAt, within, sizeOk, soundAll, soundBoard, requestOf}
-use Rattle.board.specs.Step.{kindOf, placeOf, valueOf, lastOf, Line, line, verdict, placeBad, valueBad, wordCode, refusal, Doing, reset, fetch, acknowledge, at, doingOf, after, taken, answer, answerAt, answered, accepted, refused, stepOf}
-use Rattle.board.specs.Halves.{signalOf, earlyOf, earlyAt, idle, single, fetchAt, fetchPlan, acknowledgePlan, resetPlan, acceptedPlan, planOf, touchedOf, withActed, changedOf, blank, sweepOf, freedOf, sweptOf, joined, wholly, singly, idly, carried}
+use Rattle.board.specs.Board.{most, there, ports, portAt, within, soundBoard, requestOf}
+use Rattle.board.specs.Step.{kindOf, placeOf, valueOf, lastOf, Line, line, verdict, placeBad, valueBad, wordCode, refusal, Doing, reset, fetch, acknowledge, at, doingOf, taken, answer, answered, accepted, refused, stepOf}
+use Rattle.board.specs.Halves.{signalOf, earlyOf, earlyAt, idle, single, fetchAt, fetchPlan, acknowledgePlan, resetPlan, acceptedPlan, planOf, touchedOf, changedOf, blank, sweptOf, carried}
 use Rattle.board.proofs.There.{take-within, drop-within, within-set}
 use Rattle.board.proofs.Quick.{parts, quick, cleaned, after-quick}
 
@@ -180,7 +179,7 @@ module _ (b : Board) (s : soundBoard b ≡ true) (len : length (b .chips) ≡ mo
   index : (place : ℕ) → place < b .size * 2 → place / 2 % most ≡ place / 2
   index place h = omega (arith, size-fits)
 
-  chips-are : (g : Doing) → quick (b .decoder) g (there b) ++ drop (b .size) (b .chips) ≡ taken b g .chips
+  pub chips-are : (g : Doing) → quick (b .decoder) g (there b) ++ drop (b .size) (b .chips) ≡ taken b g .chips
   unfolding taken
   chips-are g = ap (λ (l : List Chip). l ++ drop (b .size) (b .chips)) (sym (after-quick (b .decoder) g (there b) (parts b s .1)))
 

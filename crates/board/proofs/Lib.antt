@@ -5,3 +5,4 @@ pub mod Plans
 pub mod Ways
 pub mod Halves
 pub mod Steps
+pub mod Lifted

@@ -1,12 +1,12 @@
 -- What each way out of the first half gives, of any values: `search` finds the premises among what the calls ensure and what the
 -- branches tell.
 -- Assumes nothing.
-use mathlib.Core.Path.{_≡_, refl, sym, ap, _∙_}
+use mathlib.Core.Path.{_≡_}
 use mathlib.Core.Bool.{Bool, true, false, _&&_, _||_, not}
-use mathlib.Core.List.{List, [], _∷_}
+use mathlib.Core.List.{List}
 use Prim.Native.Nat.{ℕ, _*_, _/_, _-_, _≤_, _<_}
 use native.Mathlib.Omega.{arith}
-use lib.Dec.{ltb, eqb}
+use lib.Dec.{ltb}
 use lib.ListN.{length}
 use borrow.Author.Tests.{eq-eqb, ne-eqb, lt-ltb, le-ltb, ltb-true, ltb-false}
 use Rattle.bits.specs.Bits.{if_then_else_, _is_}
@@ -15,7 +15,7 @@ use Rattle.chain.specs.declared.Decoder.{Decoder}
 use Rattle.chain.specs.Decode.{shut, retiOf}
 use Rattle.chain.specs.Marks.{callerOf, holderOf}
 use Rattle.board.specs.declared.Plan.{Plan}
-use Rattle.board.specs.Step.{kindOf, placeOf, valueOf, lastOf, placeBad, valueBad}
+use Rattle.board.specs.Step.{kindOf, placeOf, valueOf, placeBad, valueBad}
 use Rattle.board.specs.Halves.{signalOf, earlyOf, earlyAt, idle, single, fetchAt, fetchPlan, acknowledgePlan, resetPlan, acceptedPlan, planOf}
 
 -- ---- the early refusals

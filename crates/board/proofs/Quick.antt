@@ -1,8 +1,8 @@
 -- "After every accepted event" of document 01 is of all places. On a sound board it comes to the same where only the chip that the
 -- event concerned is settled; and every event keeps a sound board sound.
 -- Assumes nothing.
-use mathlib.Core.Path.{_≡_, refl, ap, ap₂, _∙_}
-use mathlib.Core.Bool.{Bool, true, false, _&&_}
+use mathlib.Core.Path.{_≡_, refl, ap₂}
+use mathlib.Core.Bool.{Bool, true, false}
 use mathlib.Core.List.{List, [], _∷_, map}
 use Prim.Native.Nat.{ℕ, zero, suc, _/_}
 use lib.Dec.{ltb}
@@ -11,18 +11,18 @@ use Rattle.bits.specs.Bits.{if_then_else_, _is_}
 use Rattle.bits.proofs.Logic.{byCases, both, join}
 use Rattle.port.specs.Rules.{served, released}
 use Rattle.chip.specs.declared.Chip.{Chip}
-use Rattle.chip.specs.Chip.{Event, settle, changed, on, freshChip}
+use Rattle.chip.specs.Chip.{settle, changed, on}
 use Rattle.chip.specs.Chip as chip
 use Rattle.chip.specs.Sound.{soundChip}
-use Rattle.chip.specs.Act.{eventOf, step}
-use Rattle.chip.proofs.Keep.{settle-same, byteIn, step-is, step-sound as chip-sound, fetch-sound, serve-sound, release-sound, reset-sound, event-byte, fresh-sound}
+use Rattle.chip.specs.Act.{step}
+use Rattle.chip.proofs.Keep.{settle-same, byteIn, step-is, step-sound as chip-sound, fetch-sound, serve-sound, release-sound, reset-sound, event-byte}
 use Rattle.chain.specs.declared.Decoder.{Decoder}
 use Rattle.chain.specs.Places.{adjust}
 use Rattle.chain.specs.Chain.{flat, asker, holder, sideOf, acknowledged, retired}
 use Rattle.chain.specs.Decode.{retiOf}
 use Rattle.board.specs.declared.Board.{Board}
 use Rattle.board.specs.Board.{there, soundAll, sizeOk, soundBoard}
-use Rattle.board.specs.Step.{kindOf, valueOf, Doing, reset, fetch, acknowledge, at, doingOf, change, after, refusal, taken, accepted, refused, stepOf}
+use Rattle.board.specs.Step.{kindOf, valueOf, Doing, reset, fetch, acknowledge, at, doingOf, after, refusal, taken, accepted, refused, stepOf}
 use Rattle.board.proofs.There.{there-taken}
 
 -- ---- what keeps a chip sound keeps a row of chips sound

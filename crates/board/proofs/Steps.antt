@@ -3,11 +3,11 @@
 -- Assumes nothing.
 use mathlib.Core.Path.{_≡_, refl, sym, ap, _∙_}
 use mathlib.Core.Bool.{Bool, true, false, _&&_, _||_, not, true≢false}
-use mathlib.Core.List.{List, [], _∷_, map}
+use mathlib.Core.List.{List, [], _∷_}
 use Prim.Native.Nat.{ℕ, _*_, _/_, _%_, _≤_, _<_}
 use native.Mathlib.Omega.{arith}
-use lib.Dec.{ltb, leb}
-use lib.ListN.{length, getD, set, take}
+use lib.Dec.{leb}
+use lib.ListN.{length, getD}
 use lib.Seq.{set-getD}
 use borrow.Author.Tests.{lt-ltb, le-ltb, leb-true}
 use Rattle.bits.specs.Bits.{if_then_else_, _is_}
@@ -21,7 +21,6 @@ use Rattle.chip.specs.Chip.{side, port}
 use Rattle.chip.specs.Chip as chip
 use Rattle.chain.specs.Marks.{marksOf}
 use Rattle.board.specs.declared.Board.{Board}
-use Rattle.board.specs.declared.Stepped.{Stepped}
 use Rattle.board.specs.declared.Look.{Look}
 use Rattle.board.specs.declared.Lines.{Lines}
 use Rattle.board.specs.declared.Plan.{Plan}

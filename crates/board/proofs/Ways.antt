@@ -1,12 +1,12 @@
 -- What each way out of the second half gives, of any values.
 -- Assumes nothing.
 use mathlib.Core.Path.{_≡_, refl, sym, ap, _∙_}
-use mathlib.Core.Bool.{Bool, true, false, _&&_, not}
+use mathlib.Core.Bool.{Bool, true, false, not}
 use mathlib.Core.List.{List, [], _∷_, map}
-use Prim.Native.Nat.{ℕ, zero, suc, _≤_, _<_}
-use native.Mathlib.Nat.{not-suc-le-zero, le-of-suc-le-suc}
+use Prim.Native.Nat.{ℕ, zero, suc, _≤_}
+use native.Mathlib.Nat.{le-of-suc-le-suc}
 use native.Mathlib.Omega.{arith}
-use lib.ListN.{length, getD, set, take}
+use lib.ListN.{length, getD, set}
 use borrow.Author.Tests.{eq-eqb, ne-eqb}
 use Rattle.bits.specs.Bits.{if_then_else_, _is_}
 use Rattle.bits.proofs.Tests.{if-on, if-off}
@@ -16,17 +16,15 @@ use Rattle.chip.specs.declared.Acted.{Acted}
 use Rattle.chip.specs.Chip.{side, port, serve, release, settle}
 use Rattle.chip.specs.Chip as chip
 use Rattle.chip.specs.Act.{eventOf, actOf}
-use Rattle.chain.specs.declared.Decoder.{Decoder}
 use Rattle.chain.specs.Marks.{markOf, marksOf}
 use Rattle.board.specs.declared.Board.{Board}
-use Rattle.board.specs.declared.Answer.{Answer}
 use Rattle.board.specs.declared.Look.{Look}
 use Rattle.board.specs.declared.Plan.{Plan}
 use Rattle.board.specs.declared.Changed.{Changed}
 use Rattle.board.specs.declared.Swept.{Swept}
 use Rattle.board.specs.Board.{within}
 use Rattle.board.specs.Step.{placeOf, valueOf, answer}
-use Rattle.board.specs.Halves.{stirs, stirsSome, lookOf, signalOf, idle, planOf, firstOf, touchedOf, withActed, changedOf, blank, sweepOf, freedOf, withSwept, sweptOf}
+use Rattle.board.specs.Halves.{stirs, lookOf, signalOf, idle, planOf, firstOf, touchedOf, withActed, changedOf, blank, sweepOf, freedOf, withSwept, sweptOf}
 
 -- a flag's test turned over
 pub off : (b : Bool) → not b ≡ true → b ≡ false

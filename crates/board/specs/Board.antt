@@ -1,10 +1,10 @@
 -- The board: document 01, "What the module covers", "Sound board" and its fresh board and driven lines.
 -- Assumes nothing.
-use mathlib.Core.Bool.{Bool, true, false, _&&_, _||_, not}
+use mathlib.Core.Bool.{Bool, true, _&&_, not}
 use mathlib.Core.List.{List, [], _∷_, _++_}
-use Prim.Native.Nat.{ℕ, zero, suc, _*_}
+use Prim.Native.Nat.{ℕ, _*_}
 use lib.Dec.{ltb, leb}
-use lib.ListN.{length, getD, take, drop, replicate}
+use lib.ListN.{getD, take, drop, replicate}
 use Rattle.bits.specs.Bits.{if_then_else_, _is_}
 use Rattle.port.specs.Rules.{freshPort, drivenOf, levelsNow}
 use Rattle.port.specs.declared.Port.{Port}

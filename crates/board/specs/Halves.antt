@@ -4,8 +4,8 @@
 -- Assumes nothing.
 use mathlib.Core.Bool.{Bool, true, false, _&&_, _||_, not}
 use mathlib.Core.List.{List, [], _∷_, map}
-use Prim.Native.Nat.{ℕ, zero, suc, _-_, _/_, _%_}
-use lib.Dec.{ltb, leb}
+use Prim.Native.Nat.{ℕ, _-_, _/_, _%_}
+use lib.Dec.{ltb}
 use lib.ListN.{length, getD, set, take}
 use Rattle.bits.specs.Bits.{if_then_else_, _is_}
 use Rattle.port.specs.declared.Port.{Port}
@@ -25,7 +25,7 @@ use Rattle.board.specs.declared.Plan.{Plan}
 use Rattle.board.specs.declared.Changed.{Changed}
 use Rattle.board.specs.declared.Swept.{Swept}
 use Rattle.board.specs.Board.{most, within, soundAll, sizeOk}
-use Rattle.board.specs.Step.{kindOf, placeOf, valueOf, lastOf, Line, line, verdict, placeBad, valueBad, answer}
+use Rattle.board.specs.Step.{kindOf, placeOf, valueOf, lastOf, line, verdict, placeBad, valueBad, answer}
 
 -- ---- one look at every chip that is there
 abbrev pub stirsPort : Port → Bool

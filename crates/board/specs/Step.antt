@@ -20,7 +20,7 @@ use Rattle.chain.specs.Decode.{shut, nextOf, retiOf}
 use Rattle.board.specs.declared.Board.{Board}
 use Rattle.board.specs.declared.Answer.{Answer}
 use Rattle.board.specs.declared.Stepped.{Stepped}
-use Rattle.board.specs.Board.{there, ports, portAt, within, soundBoard, requestOf}
+use Rattle.board.specs.Board.{ports, portAt, within, soundBoard, requestOf}
 
 -- ---- an event's four bytes
 abbrev pub kindOf : List ℕ → ℕ

@@ -1,17 +1,15 @@
 -- Chips laid end to end: a change at one place of the chips is a change at that place of the ports.
 -- Assumes nothing.
-use mathlib.Core.Path.{_≡_, refl, sym, ap, _∙_}
-use mathlib.Core.Bool.{Bool, true, false}
+use mathlib.Core.Path.{_≡_, refl, ap}
 use mathlib.Core.List.{List, [], _∷_, map}
-use Prim.Native.Nat.{ℕ, zero, suc, _+_, _*_, _/_, _%_}
+use Prim.Native.Nat.{ℕ, zero, suc, _*_, _/_, _%_}
 use native.Mathlib.Omega.{arith}
 use lib.ListN.{length}
 use Rattle.bits.specs.Bits.{_is_}
 use Rattle.port.specs.declared.Port.{Port}
 use Rattle.chip.specs.declared.Chip.{Chip}
-use Rattle.chip.specs.Chip.{Side, side, on}
 use Rattle.chain.specs.Places.{adjust}
-use Rattle.chain.specs.Chain.{flat, sideOf, atPlace}
+use Rattle.chain.specs.Chain.{flat, atPlace}
 
 pub flat-length : (cs : List Chip) → length (flat cs) ≡ 2 * length cs
 flat-length [] = refl

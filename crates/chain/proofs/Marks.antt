@@ -1,6 +1,6 @@
 -- The marks say of the chain what all its ports say: who asks, and who is under service.
 -- Assumes nothing.
-use mathlib.Core.Path.{_≡_, refl, sym, ap, _∙_}
+use mathlib.Core.Path.{_≡_, refl, ap, _∙_}
 use mathlib.Core.Bool.{Bool, true, false, _&&_, not}
 use mathlib.Core.List.{List, [], _∷_, map}
 use Prim.Native.Nat.{ℕ, zero, suc, _+_, _*_, _/_, _%_, _<_}
@@ -8,13 +8,12 @@ use native.Mathlib.Nat.{not-suc-le-zero, le-of-suc-le-suc}
 use native.Mathlib.Omega.{arith}
 use lib.Dec.{ltb, leb·suc-suc, leb·zero}
 use lib.ListN.{length, length-map, take, set}
-use borrow.Author.Tests.{le-ltb}
 use Rattle.bits.specs.Bits.{if_then_else_, _is_}
 use Rattle.port.specs.declared.Port.{Port}
 use Rattle.chip.specs.declared.Chip.{Chip}
 use Rattle.chain.specs.Places.{first}
 use Rattle.chain.specs.Chain.{ready, under, asking, asker, asks, holder, flat}
-use Rattle.chain.specs.Marks.{metOf, heldOf, markOf, marksOf, up, callerOf, holderOf}
+use Rattle.chain.specs.Marks.{markOf, marksOf, up, callerOf, holderOf}
 
 -- ---- the nearest set place and 1, or 0 if none is set
 abbrev next : ℕ → ℕ

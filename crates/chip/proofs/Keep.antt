@@ -1,16 +1,14 @@
 -- A sound chip stays sound; settling a chip at rest is nothing.
 -- Assumes nothing.
-use mathlib.Core.Path.{_≡_, refl, sym, ap, ap₂, _∙_}
-use mathlib.Core.Bool.{Bool, true, false, _&&_, _||_, not}
+use mathlib.Core.Path.{_≡_, refl}
+use mathlib.Core.Bool.{Bool, true, false, not}
 use Prim.Native.Nat.{ℕ}
 use lib.Dec.{ltb}
 use Rattle.bits.specs.Bits.{if_then_else_, _is_}
-use Rattle.port.specs.Words.{heardOf, obeyed}
-use Rattle.port.specs.Rules.{matchNow, settled, woken, cleared}
+use Rattle.port.specs.Rules.{matchNow, settled}
 use Rattle.port.specs.Sound.{shapeOf}
 use Rattle.port.specs.declared.Port.{Port}
 use Rattle.port.specs.declared.Word.{Word}
-use Rattle.port.specs.declared.Word.the-variants.{Vector, Mode, Interrupt, Enable, Select, Mask}
 use Rattle.port.specs.declared.Heard.{Heard}
 use Rattle.port.specs.declared.Heard.the-variants.{Said, NoForm, NotOnB}
 use Rattle.chip.specs.declared.Chip.{Chip}

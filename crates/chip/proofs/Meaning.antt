@@ -11,7 +11,7 @@ use Rattle.port.specs.Rules.{matchNow}
 use Rattle.port.specs.Sound.{modeOk, vectorOk, enableOk, awaitOk, shapeOf, restsOf, soundOf}
 use Rattle.port.specs.declared.Port.{Port}
 use Rattle.chip.specs.declared.Chip.{Chip}
-use Rattle.chip.specs.Chip.{Side, A, B, isB, port, off, follows}
+use Rattle.chip.specs.Chip.{A, B, off, follows}
 use Rattle.chip.specs.Sound.{soundPort, soundChip}
 
 -- a sound port; `onB`: it is a B port; `follows`: its input register follows; `watched`: its own match is on

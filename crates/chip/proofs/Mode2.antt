@@ -1,16 +1,15 @@
 -- Mode 2, rule by rule in the paper's words, of every chip with A in mode 2 (`twoWay c ≡ true`): a second look at the definitions
 -- that soundness cannot give, since it is stated by the same `follows` and `off`.
 -- Assumes nothing.
-use mathlib.Core.Path.{_≡_, refl, sym, ap, _∙_}
+use mathlib.Core.Path.{_≡_, refl, ap, _∙_}
 use mathlib.Core.Bool.{Bool, true, false, _&&_, _||_, not, Bool·beq, or-true, and-true}
 use Prim.Native.Nat.{ℕ}
 use Rattle.bits.specs.Bits.{if_then_else_, _is_}
 use Rattle.port.specs.Rules.{matchNow}
-use Rattle.port.specs.declared.Port.{Port}
 use Rattle.port.specs.declared.Word.{Word}
 use Rattle.port.specs.declared.Word.the-variants.{Vector, Mode, Interrupt, Enable, Select, Mask}
 use Rattle.chip.specs.declared.Chip.{Chip}
-use Rattle.chip.specs.Chip.{Side, A, B, port, twoWay, Event, control, write, read, strobe, outside, settle, obey, changed}
+use Rattle.chip.specs.Chip.{Side, A, B, port, twoWay, write, read, strobe, settle, obey, changed}
 
 -- "B's strobe serves A's input register (follows A's lines while low ..)"
 low-follows : (m t s : Bool) (x y : ℕ) → t ≡ true → s ≡ false → (if m || (t && not s) then x else y) ≡ x

@@ -1,22 +1,22 @@
 -- What events leave alone: service, and who waits.
 -- Assumes nothing.
-use mathlib.Core.Path.{_≡_, refl, sym, ap, _∙_}
-use mathlib.Core.Bool.{Bool, true, false, _&&_, _||_, not}
+use mathlib.Core.Path.{_≡_, refl, ap}
+use mathlib.Core.Bool.{Bool, true, false}
 use mathlib.Core.List.{List, [], _∷_}
 use Prim.Native.Nat.{ℕ}
 use Rattle.port.specs.Fields.{input-at, waiting-at, matched-at}
 use Rattle.bits.specs.Bits.{if_then_else_}
 use Rattle.port.specs.Rules.{matchNow}
-use Rattle.port.specs.Words.{obeyed}
+use Rattle.port.specs.Words.{codeOf, obeyed}
 use Rattle.port.specs.declared.Port.{Port}
 use Rattle.port.specs.declared.Word.{Word}
 use Rattle.port.specs.declared.Word.the-variants.{Vector, Mode, Interrupt, Enable, Select, Mask}
 use Rattle.port.specs.declared.Heard.{Heard}
 use Rattle.port.specs.declared.Heard.the-variants.{Said, NoForm, NotOnB}
 use Rattle.chip.specs.declared.Chip.{Chip}
-use Rattle.chip.specs.Chip.{Side, A, B, port, twoWay, Event, control, write, read, strobe, outside, settle, obey, heard, obeyHeard, changed, reset, fetch, serve, release}
+use Rattle.chip.specs.Chip.{Side, A, B, twoWay, Event, control, write, read, strobe, outside, settle, heard, obeyHeard, changed, reset, fetch, serve, release}
 use Rattle.chip.specs.Sound.{soundChip}
-use Rattle.chip.specs.Act.{stepWord, step}
+use Rattle.chip.specs.Act.{stepWord, step, codeAt}
 use Rattle.chip.proofs.Keep.{fetch-settled, serve-settled, release-settled}
 
 -- the bits of both ports: under service, waiting
@@ -98,3 +98,13 @@ settle-only c = refl
 
 pub settle-only-b : (c : Chip) → back (c .b) (settle c .b) ≡ c .b
 settle-only-b c = refl
+
+-- ---- a refused word leaves the chip as it was
+refused-stays : (s : Side) (h : Heard) (c : Chip) → (codeOf h ≡ 0 → ⊥) → stepWord s h c ≡ c
+refused-stays s (Said w) c n = absurd (n refl)
+refused-stays s NoForm c n = refl
+refused-stays s NotOnB c n = refl
+
+pub refused-leaves : (s : Side) (v : ℕ) (c : Chip) → (codeAt s (control v) c ≡ 0 → ⊥) → step s (control v) c ≡ c
+unfolding step
+refused-leaves s v c n = refused-stays s (heard s v c) c n

@@ -1,7 +1,7 @@
 -- What each way out of the chip's functions gives, of any values: `search` finds the premises among what the calls ensure and
 -- what the branches tell.
 -- Assumes nothing.
-use mathlib.Core.Path.{_≡_, refl, sym, ap, _∙_}
+use mathlib.Core.Path.{_≡_, refl}
 use mathlib.Core.Bool.{Bool, true, false, _&&_, _||_, not, Bool·beq}
 use mathlib.Core.List.{[], _∷_}
 use mathlib.Core.Logic.{⊎-elim}
@@ -21,9 +21,9 @@ use Rattle.port.specs.declared.Heard.the-variants.{Said, NoForm, NotOnB}
 use Rattle.port.proofs.Heard as told
 use Rattle.chip.specs.declared.Chip.{Chip}
 use Rattle.chip.specs.declared.Acted.{Acted}
-use Rattle.chip.specs.Chip.{Side, A, B, side, isB, port, on, twoWay, follows, acts, settle, heard, obey, Event, control, write, read, strobe, outside, changed, reset, fetch, serve, release, freshChip}
+use Rattle.chip.specs.Chip.{Side, A, B, side, port, follows, acts, settle, heard, obey, write, read, strobe, outside, changed, reset, fetch, serve, release, freshChip}
 use Rattle.chip.specs.Sound.{soundChip}
-use Rattle.chip.specs.Act.{eventOf, stepWord, step, codeAt, actOf, controlledOf}
+use Rattle.chip.specs.Act.{eventOf, stepWord, step, actOf, controlledOf}
 
 abbrev pub made : Port → Port → Chip
 made a b = record { a = a; b = b }

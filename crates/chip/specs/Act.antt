@@ -2,7 +2,6 @@
 -- one chip that such an event concerns.
 -- Assumes nothing.
 use Prim.Native.Nat.{ℕ}
-use mathlib.Core.Bool.{Bool, true, false}
 use Rattle.bits.specs.Bits.{if_then_else_, _is_}
 use Rattle.port.specs.Words.{codeOf}
 use Rattle.port.specs.Rules.{shownOf}

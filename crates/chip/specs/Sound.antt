@@ -1,6 +1,6 @@
 -- Document 01, "Sound board", for one chip.
 -- Assumes nothing.
-use mathlib.Core.Bool.{Bool, true, false, _&&_, not}
+use mathlib.Core.Bool.{Bool, _&&_, not}
 use Rattle.port.specs.Sound.{restsOf, soundOf}
 use Rattle.chip.specs.declared.Chip.{Chip}
 use Rattle.chip.specs.Chip.{Side, A, B, isB, port, off, follows}

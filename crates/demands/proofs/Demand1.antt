@@ -16,8 +16,8 @@ use Rattle.board.specs.declared.Board.{Board}
 use Rattle.board.specs.Board.{soundBoard}
 use Rattle.board.specs.Step.{Line, lines, refusal, refused, stepOf}
 use Rattle.run.specs.declared.Ran.{Ran}
-use Rattle.run.specs.Run.{records, bytesOf, stepsOf, answersOf, runLines, runRefusal, ranOf, bufferOf}
-use Rattle.demands.specs.Demands.{listed, decides, Answered, FourBytes, NotFourBytes, AnsweredRun, EveryRun}
+use Rattle.run.specs.Run.{records, bytesOf, stepsOf, answersOf, runLines, refusalOf, runRefusal, ranOf, bufferOf}
+use Rattle.demands.specs.Demands.{stepCodes, runCodes, listed, decides, Answered, FourBytes, NotFourBytes, AnsweredRun, EveryRun}
 use Rattle.demands.proofs.Refusals.{verdict-each, verdict-decides, verdict-none, step-refused, accepted-code, refused-code, refused-each}
 
 pub not-four-bytes : NotFourBytes
@@ -25,9 +25,6 @@ unfolding stepOf if_then_else_
 not-four-bytes b e h = rw h
 
 -- ---- a step of four bytes
-abbrev stepCodes : List ℕ
-stepCodes = 0 ∷ 1 ∷ 2 ∷ 3 ∷ 16 ∷ 17 ∷ 18 ∷ 19 ∷ 20 ∷ 35 ∷ []
-
 module _ (b : Board) (e : List ℕ) (four : length e ≡ 4) where
   by-its-line : (c : ℕ) → 16 ≤ c → (refusal b e is c) ≡ decides c (lines b e)
   unfolding refusal
@@ -76,23 +73,20 @@ third false true z h = absurd (false≢true h)
 third false false true h = absurd (false≢true h)
 third false false false h = refl
 
-abbrev runCodes : List ℕ
-runCodes = 0 ∷ 35 ∷ 32 ∷ 34 ∷ []
-
 module _ (b : Board) (es old : List ℕ) (start : ℕ) where
   abbrev why : ℕ
   why = runRefusal b (length es) (length old) start
 
   abbrev table : List Line
-  table = runLines b (length es) (length old) start
+  table = runLines (soundBoard b) (length es) (length old) start
 
   by-run-line : (c : ℕ) → 1 ≤ c → (why is c) ≡ decides c table
-  unfolding runRefusal
+  unfolding refusalOf
   by-run-line c l = verdict-decides table refl c l
 
   -- there is room for the answers
   fits : (why is 0) ≡ true → 4 * start + length (answersOf b (records es)) ≤ length old
-  unfolding runRefusal
+  unfolding refusalOf
   fits h =
       let room = third (not (soundBoard b)) (not (length es % 4 is 0)) (ltb (length old / 4) (start + length es / 4)) (verdict-none table refl h) in
       omega (arith, ltb-false (length old / 4) (start + length es / 4) room, answers-length b (records es), records-count es)
@@ -125,7 +119,7 @@ module _ (b : Board) (es old : List ℕ) (start : ℕ) where
   buffer-refused h = rw h
 
   refused-known : (why is 0) ≡ false → listed why runCodes ≡ true
-  unfolding runRefusal
+  unfolding refusalOf
   refused-known h = verdict-each (λ n. listed n runCodes) table refl h
 
   when-run-refused : (why is 0) ≡ false → AnsweredRun b es old start

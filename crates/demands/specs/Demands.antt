@@ -21,6 +21,13 @@ use Rattle.demands.specs.Observer.{Kept, nothing, seeAll}
 use Rattle.demands.specs.Sessions.{given, rows}
 
 -- ---- DEMAND 1. Every event and every board has an answer, bad ones are refused by number, and a refused event changes nothing.
+-- the codes of document 01's table, and those of a run
+abbrev pub stepCodes : List ℕ
+stepCodes = 0 ∷ 1 ∷ 2 ∷ 3 ∷ 16 ∷ 17 ∷ 18 ∷ 19 ∷ 20 ∷ 35 ∷ []
+
+abbrev pub runCodes : List ℕ
+runCodes = 0 ∷ 35 ∷ 32 ∷ 34 ∷ []
+
 abbrev pub listed : ℕ → List ℕ → Bool
 listed n [] = false
 listed n (m ∷ l) = (m is n) || listed n l
@@ -33,7 +40,7 @@ decides code (line t other ∷ l) = if other is code then t else not t && decide
 -- a step of four bytes: the code is one of the table's; "each is given exactly when its line is true and no earlier one is"; "every
 -- refusal gives the event's place and value and leaves the board exactly as before"
 pub record Answered (b : Board) (e : List ℕ) : Type 0 where
-  pub known : listed (stepOf b e .answer .code) (0 ∷ 1 ∷ 2 ∷ 3 ∷ 16 ∷ 17 ∷ 18 ∷ 19 ∷ 20 ∷ 35 ∷ []) ≡ true
+  pub known : listed (stepOf b e .answer .code) stepCodes ≡ true
   pub ordered : (code : ℕ) → 16 ≤ code → (stepOf b e .answer .code is code) ≡ decides code (lines b e)
   pub unchanged : 16 ≤ stepOf b e .answer .code
       → stepOf b e ≡ record { board = b; answer = answer (stepOf b e .answer .code) (placeOf e) (valueOf e) (if soundBoard b then requestOf b else 0) }
@@ -48,8 +55,8 @@ NotFourBytes = (b : Board) (e : List ℕ) → (length e is 4) ≡ false → step
 -- a run over the event bytes `es`, into the answer buffer `old` from the record `start` on: a refused run "leaves board and buffer
 -- untouched and reports 0 records"; otherwise "all records are stepped", and it "reports 0 with their number"
 pub record AnsweredRun (b : Board) (es old : List ℕ) (start : ℕ) : Type 0 where
-  pub known : listed (ranOf b es old start .code) (0 ∷ 35 ∷ 32 ∷ 34 ∷ []) ≡ true
-  pub ordered : (code : ℕ) → 1 ≤ code → (ranOf b es old start .code is code) ≡ decides code (runLines b (length es) (length old) start)
+  pub known : listed (ranOf b es old start .code) runCodes ≡ true
+  pub ordered : (code : ℕ) → 1 ≤ code → (ranOf b es old start .code is code) ≡ decides code (runLines (soundBoard b) (length es) (length old) start)
   pub unchanged : 1 ≤ ranOf b es old start .code
       → (ranOf b es old start ≡ record { code = ranOf b es old start .code; records = 0; board = b }) × (bufferOf b es old start ≡ old)
   pub done : ranOf b es old start .code ≡ 0

@@ -1,9 +1,9 @@
 -- What each rule does to the registers' half of soundness, one port at a time. Four facts over at most three fields each, so
 -- no other field of a port is ever looked at.
 -- Assumes nothing.
-use mathlib.Core.Path.{_≡_, refl, sym}
-use mathlib.Core.Bool.{Bool, true, false, _&&_, _||_, not, false≢true}
-use Prim.Native.Nat.{ℕ, _/_, _%_, _<_}
+use mathlib.Core.Path.{_≡_, refl}
+use mathlib.Core.Bool.{Bool, true, false, _&&_, _||_, not}
+use Prim.Native.Nat.{ℕ, _/_, _%_}
 use native.Mathlib.Omega.{arith}
 use lib.Dec.{ltb}
 use borrow.Author.Tests.{lt-ltb, ltb-true}

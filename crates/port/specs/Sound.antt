@@ -2,7 +2,7 @@
 -- Rules.antt.
 -- Assumes nothing.
 use Prim.Native.Nat.{ℕ, _%_}
-use mathlib.Core.Bool.{Bool, true, false, _&&_, _||_, not, Bool·beq}
+use mathlib.Core.Bool.{Bool, _&&_, _||_, not, Bool·beq}
 use lib.Dec.{ltb}
 use Rattle.bits.specs.Bits.{_is_}
 use Rattle.port.specs.Rules.{matchNow}

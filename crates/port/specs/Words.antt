@@ -1,7 +1,7 @@
 -- Document 01, "Control words": what a control byte means to a port, and what the port does with it.
 -- Assumes nothing.
 use Prim.Native.Nat.{ℕ, _/_, _%_}
-use mathlib.Core.Bool.{Bool, true, false, _&&_}
+use mathlib.Core.Bool.{Bool, false, _&&_}
 use Rattle.bits.specs.Bits.{if_then_else_, _is_, bit}
 use Rattle.port.specs.Fields.{mode-at, ready-at, vector-at, select-at, mask-at, all-at, high-at, asked-at, live-at, waiting-at, awaiting-at}
 use Rattle.port.specs.declared.Port.{Port}

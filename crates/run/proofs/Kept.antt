@@ -3,23 +3,20 @@
 -- Assumes nothing.
 use mathlib.Core.Path.{_≡_, refl, sym, ap, ap₂, subst, _∙_}
 use mathlib.Core.Bool.{Bool, true, false, _&&_, _||_, not, false≢true, true≢false}
-use mathlib.Core.List.{List, [], _∷_, _++_, map}
-use Prim.Native.Nat.{ℕ, zero, suc, _*_, _/_, _%_, _-_, _≤_, _<_}
+use mathlib.Core.List.{List, [], _∷_, map}
+use Prim.Native.Nat.{ℕ, zero, suc, _*_, _/_, _%_, _-_, _<_}
 use native.Mathlib.Omega.{arith}
-use lib.Dec.{ltb, leb}
-use lib.ListN.{length, length-map, length-take, length-drop, length-append, length-set, getD, set, take, drop}
+use lib.Dec.{ltb}
+use lib.ListN.{length, length-map, length-set, getD, set, take}
 use lib.Seq.{take-set-lt, length-front}
-use borrow.Author.Tests.{ltb-true, leb-true, lt-ltb}
+use borrow.Author.Tests.{ltb-true}
 use Rattle.bits.specs.Bits.{if_then_else_, _is_}
-use Rattle.bits.proofs.Logic.{byCases, both}
-use Rattle.bits.proofs.Tests.{if-on, if-off}
-use Rattle.port.specs.Rules.{woken}
+use Rattle.bits.proofs.Logic.{byCases}
+use Rattle.bits.proofs.Tests.{if-on}
 use Rattle.chip.specs.declared.Chip.{Chip}
 use Rattle.chip.specs.declared.Acted.{Acted}
-use Rattle.chip.specs.Chip.{settle}
 use Rattle.chip.specs.Chip as chip
-use Rattle.chain.specs.declared.Decoder.{Decoder}
-use Rattle.chain.specs.Chain.{flat, asker, asks, holder}
+use Rattle.chain.specs.Chain.{asker, asks, holder}
 use Rattle.chain.specs.Decode.{retiOf}
 use Rattle.chain.specs.Marks.{markOf, marksOf, callerOf, holderOf}
 use Rattle.chain.proofs.Marks.{caller-is, holder-is, marks-set}
@@ -28,9 +25,9 @@ use Rattle.board.specs.declared.Stepped.{Stepped}
 use Rattle.board.specs.declared.Plan.{Plan}
 use Rattle.board.specs.declared.Changed.{Changed}
 use Rattle.board.specs.declared.Swept.{Swept}
-use Rattle.board.specs.Board.{most, there, ports, within, soundBoard}
+use Rattle.board.specs.Board.{most, there, ports, soundBoard}
 use Rattle.board.specs.Step.{kindOf, placeOf, valueOf, lastOf, stepOf}
-use Rattle.board.specs.Halves.{stirs, signalOf, earlyOf, earlyAt, fetchPlan, acknowledgePlan, acceptedPlan, planOf, touchedOf, withActed, changedOf, blank, sweepOf, freedOf, sweptOf, wholly, singly, idly, carried}
+use Rattle.board.specs.Halves.{stirs, signalOf, earlyAt, fetchPlan, acknowledgePlan, acceptedPlan, planOf, touchedOf, withActed, changedOf, blank, sweepOf, freedOf, sweptOf, wholly, singly, idly, carried}
 use Rattle.board.proofs.There.{take-within}
 use Rattle.board.proofs.Quick.{step-sound}
 use Rattle.board.proofs.Halves.{Still, size-fits, places, place-there, halves}

@@ -1,28 +1,17 @@
 -- One turn of a run, and its end: what the loop's proof cites.
 -- Assumes nothing.
 use mathlib.Core.Path.{_≡_, refl, sym, ap, _∙_}
-use mathlib.Core.Bool.{Bool, true, false, _||_, not}
-use mathlib.Core.List.{List, [], _∷_, _++_, map}
-use Prim.Native.Nat.{ℕ, zero, suc, _+_, _-_, _*_, _/_, _%_, _≤_, _<_}
+use mathlib.Core.List.{List, [], _∷_}
+use Prim.Native.Nat.{ℕ, _+_, _-_, _*_, _≤_, _<_}
 use native.Mathlib.Nat.{not-suc-le-zero, le-of-suc-le-suc, add-zero}
 use native.Mathlib.Omega.{arith}
-use lib.Dec.{ltb}
-use lib.ListN.{length, take, drop, getD, set, length-drop, length-take, length-set}
+use lib.ListN.{length, take, drop, length-drop}
 use lib.Seq.{drop-drop}
-use borrow.Author.Tests.{lt-ltb}
-use Rattle.chip.specs.declared.Chip.{Chip}
-use Rattle.chip.specs.Chip as chip
-use Rattle.chain.specs.declared.Decoder.{Decoder}
-use Rattle.chain.specs.Marks.{markOf, marksOf}
-use Rattle.chain.proofs.Marks.{marks-set}
 use Rattle.buffers.specs.Splice.{splice}
 use Rattle.buffers.proofs.Splices.{splice-next, splice-none, length-splice}
 use Rattle.board.specs.declared.Board.{Board}
-use Rattle.board.specs.declared.Answer.{Answer}
 use Rattle.board.specs.declared.Stepped.{Stepped}
-use Rattle.board.specs.Board.{most, there, soundBoard}
-use Rattle.board.specs.Step.{valueOf, stepOf}
-use Rattle.board.proofs.Quick.{step-sound}
+use Rattle.board.specs.Step.{stepOf}
 use Rattle.run.specs.Run.{records, stepsOf, answersOf, bytesOf}
 
 -- ---- records

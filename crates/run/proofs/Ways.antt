@@ -1,6 +1,6 @@
 -- The three ways of a record through the loop, each a turn of the run that keeps what the locals keep.
 -- Assumes nothing.
-use mathlib.Core.Path.{_≡_, refl, sym, ap, _∙_}
+use mathlib.Core.Path.{_≡_, sym, ap, _∙_}
 use mathlib.Core.Bool.{Bool, true, false, _||_, not}
 use mathlib.Core.List.{List, [], _∷_}
 use Prim.Native.Nat.{ℕ, _+_, _-_, _*_, _/_, _%_, _≤_, _<_}
@@ -11,7 +11,6 @@ use lib.ListN.{length, take, drop, getD}
 use lib.Seq.{getD-take, getD-drop}
 use borrow.Author.Tests.{lt-ltb, eq-eqb, ne-eqb, le-ltb}
 use Rattle.bits.specs.Bits.{if_then_else_, _is_}
-use Rattle.chain.specs.Marks.{marksOf}
 use Rattle.buffers.specs.Splice.{splice}
 use Rattle.board.specs.declared.Board.{Board}
 use Rattle.board.specs.declared.Answer.{Answer}
@@ -20,8 +19,8 @@ use Rattle.board.specs.declared.Plan.{Plan}
 use Rattle.board.specs.declared.Changed.{Changed}
 use Rattle.board.specs.declared.Swept.{Swept}
 use Rattle.board.specs.Board.{most, there, soundBoard}
-use Rattle.board.specs.Step.{valueOf, answer}
-use Rattle.board.specs.Halves.{stirsSome, lookOf, signalOf, planOf, changedOf, blank, sweptOf, wholly, singly, idly}
+use Rattle.board.specs.Step.{valueOf}
+use Rattle.board.specs.Halves.{lookOf, signalOf, planOf, changedOf, blank, sweptOf, wholly, singly, idly}
 use Rattle.board.proofs.Ways.{off, on}
 use Rattle.board.proofs.Steps.{quiet}
 use Rattle.run.specs.declared.Ran.{Ran}

@@ -9,7 +9,6 @@ use Rattle.bits.specs.Bits.{if_then_else_, _is_}
 use Rattle.buffers.specs.Splice.{splice}
 use Rattle.board.specs.declared.Board.{Board}
 use Rattle.board.specs.declared.Answer.{Answer}
-use Rattle.board.specs.declared.Stepped.{Stepped}
 use Rattle.board.specs.Board.{soundBoard}
 use Rattle.board.specs.Step.{Line, line, verdict, stepOf}
 use Rattle.run.specs.declared.Ran.{Ran}

@@ -1,7 +1,6 @@
 -- `run::run` meets its contract.
 -- Assumes nothing.
 use mathlib.Core.Path.{sym, _∙_}
-use native.Mathlib.Omega.{arith}
 use borrow.Author.Needs.{needs}
 use Rattle.run.proofs.Ways.{sound-is, run-refused, run-taken}
 use Rattle.run.proofs.run.Statement.{statement}
