@@ -1,34 +1,30 @@
 -- The two halves of the code are the step: on a sound board, what the first half reads and the second half changes is `stepOf`.
 -- Assumes nothing.
 use mathlib.Core.Path.{_≡_, refl, sym, ap, ap₂, _∙_}
-use mathlib.Core.Bool.{Bool, true, false, _&&_, _||_, not, false≢true}
+use mathlib.Core.Bool.{Bool, true, false, false≢true}
 use mathlib.Core.List.{List, [], _∷_, _++_, map}
-use Prim.Native.Nat.{ℕ, zero, suc, _*_, _/_, _%_, _-_, _≤_, _<_}
-use native.Mathlib.Nat.{not-suc-le-zero}
+use Prim.Native.Nat.{ℕ, suc, _*_, _/_, _%_, _-_, _≤_, _<_}
 use native.Mathlib.Omega.{arith}
 use lib.Dec.{ltb, leb}
-use lib.ListN.{length, length-map, length-take, getD, set, take, drop, take-append-drop}
+use lib.ListN.{length, length-take, getD, set, take, drop, take-append-drop}
 use lib.Seq.{set-getD, getD-take}
-use borrow.Author.Tests.{ne-eqb, eqb-true, ltb-true, ltb-false, leb-true}
+use borrow.Author.Tests.{ne-eqb, eqb-true, ltb-true, leb-true}
 use Rattle.bits.specs.Bits.{if_then_else_, _is_}
 use Rattle.bits.proofs.Logic.{byCases, both}
 use Rattle.bits.proofs.Tests.{if-on, if-off}
 use Rattle.port.specs.Words.{codeOf}
 use Rattle.port.specs.Rules.{served, released}
-use Rattle.port.specs.declared.Port.{Port}
-use Rattle.port.specs.declared.Word.{Word}
 use Rattle.port.specs.declared.Heard.{Heard}
-use Rattle.port.specs.declared.Heard.the-variants.{Said, NoForm, NotOnB}
 use Rattle.chip.specs.declared.Chip.{Chip}
-use Rattle.chip.specs.Chip.{Side, A, B, side, port, on, heard, Event, control, write, read, strobe, outside}
+use Rattle.chip.specs.Chip.{A, side, port, on, heard, Event, control, write, read, strobe, outside}
 use Rattle.chip.specs.Chip as chip
 use Rattle.chip.specs.Act.{eventOf, stepWord, step, codeAt, valueAt, actOf}
 use Rattle.chain.specs.declared.Decoder.{Decoder}
-use Rattle.chain.specs.Places.{first, adjust}
-use Rattle.chain.specs.Chain.{under, asking, asker, asks, holder, flat, sideOf, acknowledged, retired}
+use Rattle.chain.specs.Places.{adjust}
+use Rattle.chain.specs.Chain.{asker, asks, holder, flat, sideOf, acknowledged, retired}
 use Rattle.chain.specs.Decode.{shut, retiOf}
 use Rattle.chain.specs.Marks.{markOf, marksOf}
-use Rattle.chain.proofs.Places.{adjust-length, adjust-beyond}
+use Rattle.chain.proofs.Places.{adjust-length}
 use Rattle.chain.proofs.Flat.{flat-length}
 use Rattle.chain.proofs.Marks.{caller-is, holder-is, marks-set}
 use Rattle.board.specs.declared.Board.{Board}
@@ -36,8 +32,10 @@ use Rattle.board.specs.declared.Answer.{Answer}
 use Rattle.board.specs.declared.Stepped.{Stepped}
 use Rattle.board.specs.declared.Plan.{Plan}
 use Rattle.board.specs.Board.{most, there, ports, portAt, within, soundBoard, requestOf}
-use Rattle.board.specs.Step.{kindOf, placeOf, valueOf, lastOf, Line, line, verdict, placeBad, valueBad, wordCode, refusal, Doing, reset, fetch, acknowledge, at, doingOf, taken, answer, answered, accepted, refused, stepOf}
-use Rattle.board.specs.Halves.{signalOf, earlyOf, earlyAt, idle, single, fetchAt, fetchPlan, acknowledgePlan, resetPlan, acceptedPlan, planOf, touchedOf, changedOf, blank, sweptOf, carried}
+use Rattle.board.specs.Step.{kindOf, placeOf, valueOf, lastOf, line, verdict, wordCode, refusal, Doing, reset, fetch, acknowledge, at, doingOf, taken, answer, answered, accepted, refused, stepOf}
+use Rattle.board.specs.Halves.{signalOf, earlyAt, idle, single, fetchAt, fetchPlan, acknowledgePlan, resetPlan, acceptedPlan, planOf, touchedOf, changedOf, blank, sweptOf, carried}
+use Rattle.board.proofs.Tables.{wordLines, refusal-is, place-there, byHeard, plain, event-plain, event-control}
+use Rattle.board.proofs.Ports.{port-at, none-released, none-answers, Still, fetch-free}
 use Rattle.board.proofs.There.{take-within, drop-within, within-set}
 use Rattle.board.proofs.Quick.{parts, quick, cleaned, after-quick}
 
@@ -50,102 +48,6 @@ signalled false k = refl
 pub signal-is : (n : ℕ) (cs : List Chip) (d : Decoder) → signalOf (marksOf n cs) ≡ requestOf (record { size = n; chips = cs; decoder = d })
 unfolding signalOf requestOf
 signal-is n cs d = rw (caller-is n cs) (signalled (asks (flat (take n cs))) (asker (flat (take n cs))))
-
--- ---- the refusals: three that need no look at a port, then the two of a control word
-three-first : (p q r : Bool) (l : List Line) → verdict (line p 16 ∷ line q 17 ∷ line r 18 ∷ l)
-    ≡ (if verdict (line p 16 ∷ line q 17 ∷ line r 18 ∷ []) is 0 then verdict l else verdict (line p 16 ∷ line q 17 ∷ line r 18 ∷ []))
-unfolding if_then_else_
-three-first true q r l = refl
-three-first false true r l = refl
-three-first false false true l = refl
-three-first false false false l = refl
-
-abbrev wordLines : Board → List ℕ → List Line
-wordLines b e = line ((kindOf e is 3) && (wordCode b (placeOf e) (valueOf e) is 19)) 19 ∷ line ((kindOf e is 3) && (wordCode b (placeOf e) (valueOf e) is 20)) 20 ∷ []
-
-refusal-is : (b : Board) (e : List ℕ) → soundBoard b ≡ true → refusal b e ≡ (if earlyAt (b .size) e is 0 then verdict (wordLines b e) else earlyAt (b .size) e)
-unfolding refusal earlyOf
-refusal-is b e s = rw s (three-first (ltb 7 (kindOf e)) (placeBad (b .size) (kindOf e) (placeOf e)) (valueBad (kindOf e) (valueOf e) (lastOf e)) (wordLines b e))
-
--- no early refusal: the place is on the board
-pub place-there : (size kind place value last : ℕ) → (earlyOf size kind place value last is 0) ≡ true → place < size * 2
-unfolding earlyOf
-place-there size kind place value last h =
-    ltb-true place (size * 2) (go (ltb 7 kind) (ltb place (size * 2)) (ltb kind 3 && not (place is 0)) (valueBad kind value last) h)
-  where
-    go : (k p q v : Bool) → (verdict (line k 16 ∷ line (not p || q) 17 ∷ line v 18 ∷ []) is 0) ≡ true → p ≡ true
-    go true p q v e = absurd (false≢true e)
-    go false true q v e = refl
-    go false false q v e = absurd (false≢true e)
-
--- ---- the port at a place
-port-at : (cs : List Chip) (k : ℕ) (d : Port) → k < length (flat cs) → getD (flat cs) k d ≡ port (sideOf k) (getD cs (k / 2) blank)
-port-at [] k d h = absurd (not-suc-le-zero h)
-port-at (c ∷ cs) zero d h = refl
-port-at (c ∷ cs) (suc zero) d h = refl
-port-at (c ∷ cs) (suc (suc k)) d h =
-    let half : suc (suc k) / 2 ≡ suc (k / 2) = omega arith in
-    let odd : suc (suc k) % 2 ≡ k % 2 = omega arith in
-    rw (half, odd) (port-at cs k d (omega (arith, h)))
-
--- ---- nobody under service, nobody asking: nothing is released, nobody answers
-first-le : (s : List Bool) → first s ≤ length s
-first-le [] = omega arith
-first-le (true ∷ s) = omega arith
-first-le (false ∷ s) = omega (arith, first-le s)
-
-asking-length : (free : Bool) (ps : List Port) → length (asking free ps) ≡ length ps
-asking-length free [] = refl
-asking-length free (p ∷ ps) = rw (asking-length (free && not (under p)) ps)
-
-beyond : (f : Port → Port) (k : ℕ) (cs : List Chip) → k ≤ length (flat cs) → ltb k (length (flat cs)) ≡ false → adjust (on (sideOf k) f) (k / 2) cs ≡ cs
-beyond f k cs h e =
-    let i : k / 2 ≡ length cs = omega (arith, h, ltb-false k (length (flat cs)) e, flat-length cs) in
-    rw i (adjust-beyond (on (sideOf k) f) cs)
-
-none-released : (cs : List Chip) → ltb (holder (flat cs)) (length (flat cs)) ≡ false → retired cs ≡ cs
-unfolding retired
-none-released cs e = beyond released (holder (flat cs)) cs (omega (arith, first-le (map under (flat cs)), length-map (flat cs) under)) e
-
-none-answers : (cs : List Chip) → asks (flat cs) ≡ false → acknowledged cs ≡ cs
-unfolding acknowledged
-none-answers cs e = beyond served (asker (flat cs)) cs (omega (arith, first-le (asking true (flat cs)), asking-length true (flat cs))) e
-
--- a fetch leaves the row as it is
-abbrev pub Still : List Chip → Type 0
-Still cs = map chip.fetch cs ≡ cs
-
-fetch-free : (s : Side) (i : ℕ) (cs : List Chip) → map chip.fetch (adjust (on s released) i cs) ≡ adjust (on s released) i (map chip.fetch cs)
-fetch-free s i [] = refl
-fetch-free A zero (c ∷ cs) = refl
-fetch-free B zero (c ∷ cs) = refl
-fetch-free s (suc i) (c ∷ cs) = rw (fetch-free s i cs)
-
--- ---- what was heard, by cases
-byHeard : {X : Type 0} (h : Heard) → ((w : Word) → h ≡ Said w → X) → (h ≡ NoForm → X) → (h ≡ NotOnB → X) → X
-byHeard (Said w) f g k = f w refl
-byHeard NoForm f g k = g refl
-byHeard NotOnB f g k = k refl
-
--- ---- an event that is no control word
-abbrev plain : Event → Bool
-plain (control v) = false
-plain (write v) = true
-plain read = true
-plain (strobe level) = true
-plain (outside v) = true
-
-event-plain : (kind v : ℕ) → (kind is 3) ≡ false → plain (eventOf kind v) ≡ true
-unfolding eventOf if_then_else_
-event-plain kind v n =
-    rw n
-    (byCases (kind is 4) (λ e. rw e) (λ e. rw e
-    (byCases (kind is 5) (λ e. rw e) (λ e. rw e
-    (byCases (kind is 6) (λ e. rw e) (λ e. rw e))))))
-
-event-control : (kind v : ℕ) → (kind is 3) ≡ true → eventOf kind v ≡ control v
-unfolding eventOf if_then_else_
-event-control kind v e = rw e
 
 -- ---- what an accepted event comes to
 abbrev result : Board → Doing → ℕ → Stepped

@@ -3,6 +3,8 @@ pub mod Quick
 pub mod Loops
 pub mod Plans
 pub mod Ways
+pub mod Tables
+pub mod Ports
 pub mod Halves
 pub mod Steps
 pub mod Lifted

@@ -30,7 +30,8 @@ use Rattle.board.specs.Board.{most, there, sizeOk, soundAll, soundBoard,
 use Rattle.board.specs.Step.{placeOf, valueOf, refusal, refused, answer, stepOf}
 use Rattle.board.specs.Halves.{stirsPort, stirs, stirsSome, lookOf, idle, firstOf, changedOf, blank, sweptOf, joined, wholly, singly, idly, carried}
 use Rattle.board.proofs.Ways.{off, on}
-use Rattle.board.proofs.Halves.{Still, port-there, halves}
+use Rattle.board.proofs.Ports.{Still}
+use Rattle.board.proofs.Halves.{port-there, halves}
 
 -- ---- where no port is stirred a fetch changes nothing
 quiet-bit : (asked masked live : Bool) → (asked && not masked && not live) ≡ false → (live || (asked && not masked)) ≡ live

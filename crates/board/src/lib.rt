@@ -171,14 +171,24 @@ fn early_refusal(size: u8, kind: u8, place: u8, value: u8, last: u8) -> u8
     if !(place / 2 < size) | ((kind < 3) & !(place == 0)) {
         return 17;
     }
-    if (((kind == 0) | (kind == 2) | (kind == 5)) & !(value == 0)) | ((kind == 6) & !(value < 2)) | !(last == 0) {
+    if (((kind == 0) | (kind == 2) | (kind == 5)) & !(value == 0))
+        | ((kind == 6) & !(value < 2))
+        | !(last == 0)
+    {
         return 18;
     }
     0
 }
 
 // Nothing changes but the decoder, and the answer is known.
-fn plan_nothing(decoder: Decoder, marks: [u8; 4], code: u8, place: u8, value: u8, request: u8) -> Plan
+fn plan_nothing(
+    decoder: Decoder,
+    marks: [u8; 4],
+    code: u8,
+    place: u8,
+    value: u8,
+    request: u8,
+) -> Plan
     ensures { λ r. ⌜ (r ≡ idle decoder marks code place value request) × (r .chip < 4) ⌝ }
 {
     Plan {
@@ -197,7 +207,15 @@ fn plan_nothing(decoder: Decoder, marks: [u8; 4], code: u8, place: u8, value: u8
 }
 
 // The port at one place.
-fn plan_place(decoder: Decoder, marks: [u8; 4], kind: u8, code: u8, place: u8, value: u8, request: u8) -> Plan
+fn plan_place(
+    decoder: Decoder,
+    marks: [u8; 4],
+    kind: u8,
+    code: u8,
+    place: u8,
+    value: u8,
+    request: u8,
+) -> Plan
     ensures { λ r. ⌜ (r ≡ single decoder marks kind code place value request) × (r .chip < 4) ⌝ }
 {
     Plan {
@@ -216,7 +234,15 @@ fn plan_place(decoder: Decoder, marks: [u8; 4], kind: u8, code: u8, place: u8, v
 }
 
 // A fetch; `frees`: the port at the place `held` is released.
-fn plan_sweep(decoder: Decoder, marks: [u8; 4], due: bool, frees: bool, held: usize, value: u8, request: u8) -> Plan
+fn plan_sweep(
+    decoder: Decoder,
+    marks: [u8; 4],
+    due: bool,
+    frees: bool,
+    held: usize,
+    value: u8,
+    request: u8,
+) -> Plan
     ensures { λ r. ⌜ (r ≡ fetchAt decoder marks due frees held value request) × (r .chip < 4) ⌝ }
 {
     let next = decoder.next(value);
@@ -262,7 +288,15 @@ fn plan_acknowledge(marks: [u8; 4], request: u8) -> Plan
 }
 
 // An event that no early refusal stops.
-fn plan_accepted(decoder: Decoder, marks: [u8; 4], due: bool, request: u8, kind: u8, place: u8, value: u8) -> Plan
+fn plan_accepted(
+    decoder: Decoder,
+    marks: [u8; 4],
+    due: bool,
+    request: u8,
+    kind: u8,
+    place: u8,
+    value: u8,
+) -> Plan
     ensures { λ r. ⌜ (r ≡ acceptedPlan decoder marks due request kind place value) × (r .chip < 4) ⌝ }
 {
     if kind == 1 {
@@ -292,7 +326,14 @@ fn plan_accepted(decoder: Decoder, marks: [u8; 4], due: bool, request: u8, kind:
 
 // The first half of a step on a sound board: what the event's four bytes ask, by the size, the decoder, the marks, whether a fetch
 // would make a port live (`due`) and the request as it stands.
-pub fn step_reads(size: u8, decoder: Decoder, marks: [u8; 4], due: bool, request: u8, event: &[u8]) -> Plan
+pub fn step_reads(
+    size: u8,
+    decoder: Decoder,
+    marks: [u8; 4],
+    due: bool,
+    request: u8,
+    event: &[u8],
+) -> Plan
     ensures { λ r. ⌜ (r ≡ planOf size decoder marks due request (now (event .entry))) × (r .chip < 4) ⌝ }
 {
     if event.len() != 4 {

@@ -54,4 +54,3 @@ awaiting-at x p = record { mode = p .mode; out = p .out; input = p .input; lines
 
 abbrev pub matched-at : Bool → Port → Port
 matched-at x p = record { mode = p .mode; out = p .out; input = p .input; lines = p .lines; strobe = p .strobe; ready = p .ready; vector = p .vector; select = p .select; mask = p .mask; all = p .all; high = p .high; asked = p .asked; live = p .live; waiting = p .waiting; service = p .service; awaiting = p .awaiting; matched = x }
-

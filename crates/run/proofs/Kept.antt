@@ -30,7 +30,9 @@ use Rattle.board.specs.Step.{kindOf, placeOf, valueOf, lastOf, stepOf}
 use Rattle.board.specs.Halves.{stirs, signalOf, earlyAt, fetchPlan, acknowledgePlan, acceptedPlan, planOf, touchedOf, withActed, changedOf, blank, sweepOf, freedOf, sweptOf, wholly, singly, idly, carried}
 use Rattle.board.proofs.There.{take-within}
 use Rattle.board.proofs.Quick.{step-sound}
-use Rattle.board.proofs.Halves.{Still, size-fits, places, place-there, halves}
+use Rattle.board.proofs.Tables.{place-there}
+use Rattle.board.proofs.Ports.{Still}
+use Rattle.board.proofs.Halves.{size-fits, places, halves}
 use Rattle.board.proofs.Steps.{quiet-chip, carried-whole, carried-single, carried-idle}
 
 pub record Kept (b : Board) (marks : List ℕ) (request : ℕ) (due : Bool) : Type 0 where
@@ -113,6 +115,7 @@ sweep-still kind c = byCases (kind is 0) (λ e. rw e) (λ e. rw e (fetch-twice c
     again false true true = refl
     again false true false = refl
     again false false t = refl
+
     fetch-twice : (c : Chip) → chip.fetch (chip.fetch c) ≡ chip.fetch c
     fetch-twice c = rw (again (c .a .live) (c .a .asked) (not (c .a .awaiting is 2)), again (c .b .live) (c .b .asked) (not (c .b .awaiting is 2)))
 

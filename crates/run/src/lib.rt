@@ -38,7 +38,13 @@ fn refusal(sound: bool, events: usize, room: usize, start: usize) -> u8
 }
 
 // All the records, on a sound board with room for their answers; `seen` is a look at the board.
-fn run_records(board: Board, seen: board::Look, events: &[u8], answers: &mut [u8], start: usize) -> Board
+fn run_records(
+    board: Board,
+    seen: board::Look,
+    events: &[u8],
+    answers: &mut [u8],
+    start: usize,
+) -> Board
     requires { ⌜ (seen ≡ lookOf (board .size) (board .chips)) × ((soundBoard board ≡ true) × (length (board .chips) ≡ 4)) ⌝ }
     requires { ⌜ (length (now events) % 4 ≡ 0) × (start + length (now events) / 4 ≤ length (now answers) / 4) ⌝ }
     ensures { λ r. ⌜ r ≡ stepsOf board (records (now (events .entry))) ⌝ }
@@ -69,7 +75,13 @@ fn run_records(board: Board, seen: board::Look, events: &[u8], answers: &mut [u8
             marks = ms;
             request = s.answer.request;
             due = false;
-            buffers::put_record(&mut answers[to..], s.answer.code, s.answer.place, s.answer.value, s.answer.request);
+            buffers::put_record(
+                &mut answers[to..],
+                s.answer.code,
+                s.answer.place,
+                s.answer.value,
+                s.answer.request,
+            );
             continue;
         }
         if !w.one {
@@ -85,7 +97,13 @@ fn run_records(board: Board, seen: board::Look, events: &[u8], answers: &mut [u8
         marks = ms;
         request = r.answer.request;
         due = due | r.due;
-        buffers::put_record(&mut answers[to..], r.answer.code, r.answer.place, r.answer.value, r.answer.request);
+        buffers::put_record(
+            &mut answers[to..],
+            r.answer.code,
+            r.answer.place,
+            r.answer.value,
+            r.answer.request,
+        );
     }
     Board {
         size: size,

@@ -19,10 +19,11 @@ loop-holds c = (look-begins _ _ 4 (search needs), search needs)
 loop-again : tie.Need-loop-again Inv-loop μ-loop
 loop-again c =
     let loop = c .before .before .before .before .before .loop in
-    let test = c .before .before .before .before .loop-test .taken in
-    (look-turns _ _ (c .before .before .sound .result) (c .before .stirred .result) (c .mark .result) (loop .inv .0)
-    (in-size (loop .i) 4 _ test) (search (needs, in-list)) (c .before .before .sound .ensures) (c .before .stirred .ensures) (c .mark .ensures),
-    omega (arith, in-list (loop .i) 4 _ test))
+    let test = c .before .before .before .before .loop-test .taken in (
+      look-turns _ _ (c .before .before .sound .result) (c .before .stirred .result) (c .mark .result) (loop .inv .0)
+          (in-size (loop .i) 4 _ test) (search (needs, in-list)) (c .before .before .sound .ensures) (c .before .stirred .ensures) (c .mark .ensures),
+      omega (arith, in-list (loop .i) 4 _ test),
+    )
 
 returns : tie.Need-returns Inv-loop μ-loop
 returns c = (look-ends _ _ 4 (c .before .loop .inv .0) (search needs) (c .loop-test .left), search needs)

@@ -21,9 +21,10 @@ loop-holds c = (sweep-begins _ _ _ 4 (search needs), search needs)
 loop-again : tie.Need-loop-again Inv-loop μ-loop
 loop-again c =
     let loop = c .before .before .before .before .loop in
-    let test = c .before .before .before .loop-test .taken in
-    (sweep-turns _ _ _ (c .before .sweep .result) (c .mark .result) (loop .inv .0) (in-size (loop .i) 4 _ test) (search (needs, in-list)) (c .before .sweep .ensures) (c .mark .ensures),
-    omega (arith, in-list (loop .i) 4 _ test))
+    let test = c .before .before .before .loop-test .taken in (
+      sweep-turns _ _ _ (c .before .sweep .result) (c .mark .result) (loop .inv .0) (in-size (loop .i) 4 _ test) (search (needs, in-list)) (c .before .sweep .ensures) (c .mark .ensures),
+      omega (arith, in-list (loop .i) 4 _ test),
+    )
 
 returns : tie.Need-returns Inv-loop μ-loop
 returns c =

@@ -1,0 +1,8 @@
+#!/usr/bin/env bash
+# bench.sh: what an event costs, in one table: the run, the lent step, the rival, and a hash of the bytes as the floor.
+set -eu
+cd "$(dirname "$0")/.."
+[ -f target/staticlib/libpio.a ] || rt staticlib pio
+export PIO_LIB_DIR="$PWD/target/staticlib"
+cargo build --quiet --release --offline --manifest-path rival/Cargo.toml --features library
+exec rival/target/release/rival bench
