@@ -20,7 +20,7 @@ eventOf kind v =
     if kind is 6 then strobe (v is 1) else
     outside v
 
--- "a refused event changes nothing", so nothing is settled either
+-- a refused word changes nothing, so nothing is settled either
 abbrev pub stepWord : Side → Heard → Chip → Chip
 stepWord s (Said w) c = settle (obey s w c)
 stepWord s NoForm c = c

@@ -1,0 +1,3 @@
+pub mod Places
+pub mod Pages
+pub mod Whole

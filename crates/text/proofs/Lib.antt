@@ -1,0 +1,4 @@
+pub mod Listings
+pub mod Pieces
+pub mod Sizes
+pub mod Examples
