@@ -1,0 +1,160 @@
+// The board is lent: each function takes a board that stays where its caller keeps it, calls the functions on values and stores what
+// they give. Document 01, "The board is lent to the step and altered there". The functions whose names begin with pio_ are for C and
+// Rust to link; include/pio.h says in words what each answers and refuses.
+use board::Answer;
+use board::Board;
+use board::Look;
+use board::Plan;
+use chain::Decoder;
+ghost use mathlib.Core.Path.{_≡_};
+ghost use Prim.Native.Nat.{_<_};
+ghost use lib.Dec.{leb};
+ghost use lib.ListN.{length};
+ghost use Rattle.board.specs.Board.{freshOf};
+ghost use Rattle.board.specs.Step.{stepOf};
+ghost use Rattle.board.specs.Halves.{idle};
+ghost use Rattle.run.specs.Run.{bytesOf, ranOf, bufferOf};
+ghost use Rattle.pio.specs.Seen.{seenPlan};
+ghost use Rattle.pio.specs.Lent.{lentOf, lentLines, linesBytes, written};
+
+// A fresh board of `size` chips; 33 and a board of size 0 for a size that no board has.
+#[no_mangle]
+pub extern "C" fn pio_fresh(board: &mut Board, size: usize) -> u8
+    ensures { λ r. ⌜ r ≡ freshOf size .code ⌝ }
+    ensures { λ _. ⌜ now (board .exit) ≡ freshOf size .board ⌝ }
+{
+    let m = board::fresh(size);
+    *board = m.board;
+    m.code
+}
+
+// Nothing changes, and the answer is a refusal with request 0.
+fn plan_refusal(decoder: Decoder, marks: [u8; 4], code: u8, place: u8, value: u8) -> Plan
+    ensures { λ r. ⌜ (r ≡ idle decoder marks code place value 0) × (r .chip < 4) ⌝ }
+{
+    Plan {
+        whole: false,
+        one: false,
+        chip: 0,
+        second: false,
+        kind: 0,
+        code: code,
+        place: place,
+        value: value,
+        request: 0,
+        marks: marks,
+        decoder: decoder,
+    }
+}
+
+// The first half of a step on a board that was looked over: what the event's bytes ask. 32 and 35 come before all else.
+fn plan_seen(size: u8, decoder: Decoder, seen: Look, event: &[u8]) -> Plan
+    ensures { λ r. ⌜ (r ≡ seenPlan size decoder seen (now (event .entry))) × (r .chip < 4) ⌝ }
+{
+    let marks = seen.marks;
+    if seen.sound {
+        let request = board::signal(marks);
+        return board::step_reads(size, decoder, marks, seen.due, request, event);
+    }
+    if event.len() != 4 {
+        return plan_refusal(decoder, marks, 32, 0, 0);
+    }
+    plan_refusal(decoder, marks, 35, event[1], event[2])
+}
+
+// One step. The chips are looked over where they lie. An event that concerns one chip takes that chip out of the board and puts it
+// back; a reset, and a fetch that makes a port live, change them all.
+pub fn step(board: &mut Board, event: &[u8]) -> Answer
+    ensures { λ r. ⌜ r ≡ stepOf (now (board .entry)) (now (event .entry)) .answer ⌝ }
+    ensures { λ _. ⌜ now (board .exit) ≡ stepOf (now (board .entry)) (now (event .entry)) .board ⌝ }
+{
+    let seen = board::look_over(board.size, board.chips);
+    let w = plan_seen(board.size, board.decoder, seen, event);
+    if w.whole {
+        let s = board::step_chips(board.size, board.chips, w);
+        board.chips = s.chips;
+        board.decoder = w.decoder;
+        return s.answer;
+    } else {
+        let k = w.chip;
+        let r = board::step_chip(board.chips[k], w);
+        board.chips[k] = r.chip;
+        board.decoder = w.decoder;
+        return r.answer;
+    }
+}
+
+// Whether a buffer of `length` bytes has room for `need`.
+fn has_room(length: usize, need: usize) -> bool
+    ensures { λ r. ⌜ r ≡ leb need length ⌝ }
+{
+    need <= length
+}
+
+// An answer's four bytes at the start of `out`. Answers its code.
+fn put_answer(out: &mut [u8], a: Answer) -> u8
+    ensures { λ r. ⌜ r ≡ a .code ⌝ }
+    ensures { λ _. ⌜ now (out .exit) ≡ written (now (out .entry)) (bytesOf a) ⌝ }
+{
+    buffers::put_record(out, a.code, a.place, a.value, a.request);
+    a.code
+}
+
+// One step, with its answer's four bytes at the start of `answer`. A shorter buffer is refused with 34 before all else.
+#[no_mangle]
+pub extern "C" fn pio_step(board: &mut Board, event: &[u8], answer: &mut [u8]) -> u8
+    ensures { λ r. ⌜ r ≡ lentOf (now (board .entry)) (now (event .entry)) (length (now (answer .entry))) .answer .code ⌝ }
+    ensures { λ _. ⌜ now (board .exit) ≡ lentOf (now (board .entry)) (now (event .entry)) (length (now (answer .entry))) .board ⌝ }
+    ensures { λ _. ⌜ now (answer .exit) ≡ written (now (answer .entry)) (bytesOf (lentOf (now (board .entry)) (now (event .entry)) (length (now (answer .entry))) .answer)) ⌝ }
+{
+    if has_room(answer.len(), 4) {
+        let a = step(board, event);
+        return put_answer(answer, a);
+    } else {
+        return 34;
+    }
+}
+
+// A run over the records of `events`, their answers from the record `start` of `answers` on, and their number in `records`.
+#[no_mangle]
+pub extern "C" fn pio_run(
+    board: &mut Board,
+    events: &[u8],
+    answers: &mut [u8],
+    start: usize,
+    records: &mut usize,
+) -> u8
+    ensures { λ r. ⌜ r ≡ ranOf (now (board .entry)) (now (events .entry)) (now (answers .entry)) start .code ⌝ }
+    ensures { λ _. ⌜ now (board .exit) ≡ ranOf (now (board .entry)) (now (events .entry)) (now (answers .entry)) start .board ⌝ }
+    ensures { λ _. ⌜ now (records .exit) ≡ ranOf (now (board .entry)) (now (events .entry)) (now (answers .entry)) start .records ⌝ }
+    ensures { λ _. ⌜ now (answers .exit) ≡ bufferOf (now (board .entry)) (now (events .entry)) (now (answers .entry)) start ⌝ }
+{
+    let r = run::run(*board, events, answers, start);
+    *board = r.board;
+    *records = r.records;
+    r.code
+}
+
+// The levels at a place and a 1 for each driven line, at the start of `out`. Answers the code; a shorter buffer is refused with 34
+// before all else.
+fn put_lines(board: Board, place: usize, out: &mut [u8]) -> u8
+    ensures { λ r. ⌜ r ≡ lentLines board place (length (now (out .entry))) .code ⌝ }
+    ensures { λ _. ⌜ now (out .exit) ≡ written (now (out .entry)) (linesBytes (lentLines board place (length (now (out .entry))))) ⌝ }
+{
+    if out.len() < 2 {
+        return 34;
+    }
+    let l = board::driven_lines(board, place);
+    out[0] = l.levels;
+    out[1] = l.driven;
+    l.code
+}
+
+// The lines driven at a place: two bytes at the start of `lines`.
+#[no_mangle]
+pub extern "C" fn pio_lines(board: &Board, place: usize, lines: &mut [u8]) -> u8
+    ensures { λ r. ⌜ r ≡ lentLines (now (board .entry)) place (length (now (lines .entry))) .code ⌝ }
+    ensures { λ _. ⌜ now (lines .exit) ≡ written (now (lines .entry)) (linesBytes (lentLines (now (board .entry)) place (length (now (lines .entry))))) ⌝ }
+{
+    put_lines(*board, place, lines)
+}
