@@ -90,6 +90,18 @@ fn separator(left: usize) -> u8
     if left == 0 { b'\n' } else { b' ' }
 }
 
+// The digits of a number of a row. Most are flags and codes of one digit, which are stored at once.
+fn number(out: &mut [u8], at: usize, n: u64) -> usize
+    requires { ⌜ at + length (digitsOf n) ≤ length (now out) ⌝ }
+    ensures { λ r. ⌜ Wrote (now (out .entry)) at (digitsOf n) (now (out .exit)) r ⌝ }
+{
+    if n <= 9 {
+        out[at] = b'0' + n as u8;
+        return at + 1;
+    }
+    digits(out, at, n)
+}
+
 // The row of `numbers`, number by number, where there is room for it.
 fn row(out: &mut [u8], at: usize, numbers: &[u64]) -> usize
     requires { ⌜ at + 21 * length (now numbers) ≤ length (now out) ⌝ }
@@ -99,7 +111,7 @@ fn row(out: &mut [u8], at: usize, numbers: &[u64]) -> usize
     let mut next = at;
     let mut i: usize = 0;
     while i < numbers.len() {
-        next = digits(out, next, numbers[i]);
+        next = number(out, next, numbers[i]);
         i += 1;
         out[next] = separator(numbers.len() - i);
         next += 1;

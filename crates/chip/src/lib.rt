@@ -33,7 +33,7 @@ pub fn port_of(c: Chip, on_b: bool) -> Port
 }
 
 // Whether A's input register follows A's lines.
-fn a_follows(c: Chip) -> bool
+pub fn a_follows(c: Chip) -> bool
     ensures { λ r. ⌜ r ≡ follows (side false) c ⌝ }
 {
     let a = c.a;
@@ -42,7 +42,7 @@ fn a_follows(c: Chip) -> bool
 }
 
 // Whether B's input register follows B's lines.
-fn b_follows(c: Chip) -> bool
+pub fn b_follows(c: Chip) -> bool
     ensures { λ r. ⌜ r ≡ follows (side true) c ⌝ }
 {
     let a = c.a;

@@ -2,3 +2,6 @@ pub mod Turns
 pub mod Kept
 pub mod Ways
 pub mod Whole
+pub mod Chips
+pub mod Fast
+pub mod Places

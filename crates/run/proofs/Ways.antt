@@ -33,21 +33,21 @@ abbrev Accepts : Bool → ℕ → ℕ → ℕ → ℕ → Type 0
 Accepts sound events room start code = code ≡ 0 → (sound ≡ true) × ((events % 4 ≡ 0) × (start + events / 4 ≤ room / 4))
 
 module _ (sound : Bool) (events room start : ℕ) where
-  pub is-35 : not sound ≡ true → (35 ≡ refusalOf sound events room start) × Accepts sound events room start 35
+  pub unsound-refused : not sound ≡ true → (35 ≡ refusalOf sound events room start) × Accepts sound events room start 35
   unfolding refusalOf
-  is-35 t = (rw t, λ z. absurd (omega (arith, z)))
+  unsound-refused t = (rw t, λ z. absurd (omega (arith, z)))
 
-  pub is-32 : not sound ≡ false → (events % 4 ≡ 0 → ⊥) → (32 ≡ refusalOf sound events room start) × Accepts sound events room start 32
+  pub length-refused : not sound ≡ false → (events % 4 ≡ 0 → ⊥) → (32 ≡ refusalOf sound events room start) × Accepts sound events room start 32
   unfolding refusalOf
-  is-32 t n = (rw (t, ne-eqb (events % 4) 0 n), λ z. absurd (omega (arith, z)))
+  length-refused t n = (rw (t, ne-eqb (events % 4) 0 n), λ z. absurd (omega (arith, z)))
 
-  pub is-34 : not sound ≡ false → events % 4 ≡ 0 → room / 4 < start + events / 4 → (34 ≡ refusalOf sound events room start) × Accepts sound events room start 34
+  pub room-refused : not sound ≡ false → events % 4 ≡ 0 → room / 4 < start + events / 4 → (34 ≡ refusalOf sound events room start) × Accepts sound events room start 34
   unfolding refusalOf
-  is-34 t n h = (rw (t, eq-eqb (events % 4) 0 n, lt-ltb (room / 4) (start + events / 4) h), λ z. absurd (omega (arith, z)))
+  room-refused t n h = (rw (t, eq-eqb (events % 4) 0 n, lt-ltb (room / 4) (start + events / 4) h), λ z. absurd (omega (arith, z)))
 
-  pub is-0 : not sound ≡ false → events % 4 ≡ 0 → start + events / 4 ≤ room / 4 → (0 ≡ refusalOf sound events room start) × Accepts sound events room start 0
+  pub none-refused : not sound ≡ false → events % 4 ≡ 0 → start + events / 4 ≤ room / 4 → (0 ≡ refusalOf sound events room start) × Accepts sound events room start 0
   unfolding refusalOf
-  is-0 t n h = (rw (t, eq-eqb (events % 4) 0 n, le-ltb (room / 4) (start + events / 4) h), λ z. (on sound t, (n, h)))
+  none-refused t n h = (rw (t, eq-eqb (events % 4) 0 n, le-ltb (room / 4) (start + events / 4) h), λ z. (on sound t, (n, h)))
 
 -- before the first record
 pub kept-begins : (b : Board) (l : Look) (r : ℕ) → l ≡ lookOf (b .size) (b .chips) → soundBoard b ≡ true → length (b .chips) ≡ most → r ≡ signalOf (l .marks) → Kept b (l .marks) r (l .due)

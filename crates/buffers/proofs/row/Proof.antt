@@ -13,21 +13,21 @@ Inv-loop out₀ at numbers next₀ i₀ out next i = Before numbers out₀ at ou
 abbrev μ-loop : tie.MeasureT-loop
 μ-loop out₀ at numbers next₀ i₀ out next i = length numbers - i
 
-digits-requires : tie.Need-digits-requires Inv-loop μ-loop
-digits-requires c κs =
+number-requires : tie.Need-number-requires Inv-loop μ-loop
+number-requires c κs =
     let loop = c .before .before .before .loop in
     omega (arith, space _ _ _ (omega arith) (c .before .before .loop-test .taken) (c .shared-slice-known2 .given (loop .i)) (loop .inv))
 
 slice-write-out : tie.Need-slice-write-out Inv-loop μ-loop
 slice-write-out c =
-    let call = c .before .before .before .digits in
+    let call = c .before .before .before .number in
     let read = c .before .before .before .before in
     let loop = read .before .before .before .loop in
     omega (arith, call .kept .0, call .ensures .ends, space _ _ _ (omega arith) (read .before .before .loop-test .taken) (read .shared-slice-known2 .given (loop .i)) (loop .inv))
 
 loop-again : tie.Need-loop-again Inv-loop μ-loop
 loop-again c =
-    let call = c .before .before .before .digits in
+    let call = c .before .before .before .number in
     let read = c .before .before .before .before in
     let loop = read .before .before .before .loop in
     rw (c .separator .ensures)
@@ -45,7 +45,7 @@ row-spec =
     (λ c. begin _ _ _)
     (λ c. search needs)
     (λ c. omega arith)
-    digits-requires
+    number-requires
     (λ c. omega arith)
     (λ c. omega arith)
     (λ c κs. search needs)

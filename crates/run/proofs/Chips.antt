@@ -1,0 +1,125 @@
+-- One event at a sound chip, with no more settling than it can need, is the chip's step.
+-- Assumes nothing.
+use mathlib.Core.Path.{_≡_, refl, sym, ap, ap₂, _∙_}
+use mathlib.Core.Bool.{Bool, true, false, _&&_, _||_, not, Bool·beq}
+use Prim.Native.Nat.{ℕ}
+use Rattle.bits.specs.Bits.{if_then_else_, _is_}
+use Rattle.bits.proofs.Logic.{both, beq-is}
+use Rattle.port.specs.Fields.{input-at, waiting-at, matched-at, ready-at}
+use Rattle.port.specs.Words.{obeyed}
+use Rattle.port.specs.Rules.{written, accessed, strobed, linesNow, matchNow, settled}
+use Rattle.port.specs.Sound.{restsOf}
+use Rattle.port.specs.declared.Port.{Port}
+use Rattle.port.specs.declared.Word.{Word}
+use Rattle.port.specs.declared.Word.the-variants.{Vector, Mode, Interrupt, Enable, Select, Mask}
+use Rattle.port.proofs.Rest.{rests-settled}
+use Rattle.chip.specs.declared.Chip.{Chip}
+use Rattle.chip.specs.Chip.{Side, A, B, side, twoWay, off, follows, acts, write, read, strobe, outside, settle, obey, changed}
+use Rattle.chip.specs.Sound.{soundChip}
+use Rattle.chip.specs.Act.{step}
+use Rattle.chip.proofs.Keep.{apart, rest-same}
+use Rattle.chip.proofs.Ways.{made}
+use Rattle.board.proofs.Ways.{off as turned-off, on as turned-on}
+use Rattle.run.specs.Fast.{following, followed}
+
+-- ---- a port whose match memory is right: settling only lets the input register follow
+matched-now : (f w : Bool) (p : Port) → restsOf f w p ≡ true → p .matched ≡ (matchNow p && w)
+matched-now f w p e = beq-is (p .matched) (matchNow p && w) (both (Bool·beq (p .matched) (matchNow p && w)) (not f || (p .input is p .lines)) e .0)
+
+no-edge : (w m : Bool) → (w || (m && not m)) ≡ w
+no-edge true m = refl
+no-edge false true = refl
+no-edge false false = refl
+
+put-back : (p : Port) (i : ℕ) (w m : Bool) → w ≡ p .waiting → m ≡ p .matched → input-at i (waiting-at w (matched-at m p)) ≡ input-at i p
+put-back p i w m f g = rw (f, g)
+
+settled-input : (f w : Bool) (p : Port) → p .matched ≡ (matchNow p && w) → input-at (if f then p .lines else p .input) p ≡ settled f w p
+settled-input f w p m =
+    sym
+    (put-back p (if f then p .lines else p .input) (p .waiting || (matchNow p && w && not (p .matched))) (matchNow p && w)
+    (rw (← m) (no-edge (p .waiting) (p .matched))) (sym m))
+
+pub follow-none : (f : Bool) (p : Port) → not f ≡ true → p ≡ following f p
+unfolding if_then_else_
+follow-none f p e = rw (turned-off f e)
+
+pub follow-taken : (f : Bool) (p : Port) → not f ≡ false → input-at (p .lines) p ≡ following f p
+unfolding if_then_else_
+follow-taken f p e = rw (turned-on f e)
+
+pub both-follow : (c : Chip) (f g : Bool) (x y : Port) → f ≡ follows A c → g ≡ follows B c → x ≡ following f (c .a) → y ≡ following g (c .b) → made x y ≡ followed c
+both-follow c f g x y i j k l = rw (k, l, i, j)
+
+-- ---- data: nothing is left to settle
+module _ (c : Chip) (s : Bool) where
+  pub write-at-b : (v : ℕ) (q : Port) → s ≡ true → q ≡ written (c .a .mode is 2) v (c .b) → soundChip c ≡ true → made (c .a) q ≡ step (side s) (write v) c
+  unfolding step matchNow
+  write-at-b v q e i h = rw (e, i) (sym (rest-same (changed B (write v) c) (apart c h .1)))
+
+  pub write-at-a : (v : ℕ) (q : Port) → s ≡ false → q ≡ written false v (c .a) → soundChip c ≡ true → made q (c .b) ≡ step (side s) (write v) c
+  unfolding step matchNow
+  write-at-a v q e i h = rw (e, i) (sym (rest-same (changed A (write v) c) (apart c h .1)))
+
+  pub read-at-b : (q : Port) → s ≡ true → q ≡ accessed (c .a .mode is 2) (c .b) → soundChip c ≡ true → made (c .a) q ≡ step (side s) read c
+  unfolding step matchNow
+  read-at-b q e i h = rw (e, i) (sym (rest-same (changed B read c) (apart c h .1)))
+
+  pub read-at-a : (q : Port) → s ≡ false → q ≡ accessed false (c .a) → soundChip c ≡ true
+      → made q (ready-at (c .b .ready || (c .a .mode is 2)) (c .b)) ≡ step (side s) read c
+  unfolding step matchNow
+  read-at-a q e i h = rw (e, i) (sym (rest-same (changed A read c) (apart c h .1)))
+
+  -- ---- a strobe: no match changes
+  follows-all : (d : Chip) → d .a .matched ≡ (matchNow (d .a) && true) → d .b .matched ≡ (matchNow (d .b) && not (off B d)) → followed d ≡ settle d
+  follows-all d m n = ap₂ (λ (x y : Port). made x y) (settled-input (follows A d) true (d .a) m) (settled-input (follows B d) (not (off B d)) (d .b) n)
+
+  strobe-side : (t : Side) (level : Bool) → soundChip c ≡ true → followed (changed t (strobe level) c) ≡ step t (strobe level) c
+  unfolding step matchNow
+  strobe-side A level h =
+      let r = apart c h .1 in
+      follows-all (changed A (strobe level) c) (matched-now (follows A c) true (c .a) (r .0)) (matched-now (follows B c) (not (off B c)) (c .b) (r .1))
+  strobe-side B level h =
+      let r = apart c h .1 in
+      follows-all (changed B (strobe level) c) (matched-now (follows A c) true (c .a) (r .0)) (matched-now (follows B c) (not (off B c)) (c .b) (r .1))
+
+  pub strobe-at-b : (level : Bool) (q : Port) (d : Chip) → s ≡ true → q ≡ strobed (acts B c) level (c .b) → d ≡ followed (made (c .a) q) → soundChip c ≡ true → d ≡ step (side s) (strobe level) c
+  strobe-at-b level q d e i j h = rw (e, j, i) (strobe-side B level h)
+
+  pub strobe-at-a : (level : Bool) (q : Port) (d : Chip) → s ≡ false → q ≡ strobed (acts A c) level (c .a) → d ≡ followed (made q (c .b)) → soundChip c ≡ true → d ≡ step (side s) (strobe level) c
+  strobe-at-a level q d e i j h = rw (e, j, i) (strobe-side A level h)
+
+  -- ---- outside levels: the other port is as it was
+  pub lines-at-b : (v : ℕ) (f : Bool) (p q : Port) → s ≡ true → p ≡ linesNow v (c .b) → f ≡ follows B c → q ≡ settled f (not (c .a .mode is 2)) p → soundChip c ≡ true → made (c .a) q ≡ step (side s) (outside v) c
+  unfolding step
+  lines-at-b v f p q e i j k h = rw (e, k, j, i) (ap (λ (x : Port). made x (settled (follows B c) (not (off B c)) (linesNow v (c .b)))) (sym (rests-settled (follows A c) true (c .a) (apart c h .1 .0))))
+
+  pub lines-at-a : (v : ℕ) (f : Bool) (p q : Port) → s ≡ false → p ≡ linesNow v (c .a) → f ≡ follows A c → q ≡ settled f true p → soundChip c ≡ true → made q (c .b) ≡ step (side s) (outside v) c
+  unfolding step
+  lines-at-a v f p q e i j k h = rw (e, k, j, i) (ap (made (settled (follows A c) true (linesNow v (c .a)))) (sym (rests-settled (follows B c) (not (off B c)) (c .b) (apart c h .1 .1))))
+
+-- ---- a control word to B: no word moves the strobe, so A rests as before
+obeyed-strobe : (linked : Bool) (p : Port) (w : Word) → obeyed linked p w .strobe ≡ p .strobe
+unfolding if_then_else_
+obeyed-strobe linked p (Vector v) = refl
+obeyed-strobe linked p (Mode m) = refl
+obeyed-strobe linked p (Interrupt on all high true) = refl
+obeyed-strobe linked p (Interrupt on all high false) = refl
+obeyed-strobe linked p (Enable on) = refl
+obeyed-strobe linked p (Select v) = refl
+obeyed-strobe linked p (Mask v) = refl
+
+a-rests : (c : Chip) (w : Word) → soundChip c ≡ true → settled (follows A (obey B w c)) true (c .a) ≡ c .a
+a-rests c w h =
+    ap (λ (t : Bool). settled (((c .a .mode is 1) && not (c .a .strobe)) || (twoWay c && not t)) true (c .a)) (obeyed-strobe (twoWay c) (c .b) w)
+    ∙ rests-settled (follows A c) true (c .a) (apart c h .1 .0)
+
+pub word-b : (c : Chip) (w : Word) (f : Bool) (p q : Port) → p ≡ obeyed (c .a .mode is 2) (c .b) w → f ≡ follows B (made (c .a) p) → q ≡ settled f (not (c .a .mode is 2)) p
+    → soundChip c ≡ true → made (c .a) q ≡ settle (obey B w c)
+word-b c w f p q i j k h = rw (k, j, i) (ap (λ (x : Port). made x (settle (obey B w c) .b)) (sym (a-rests c w h)))
+
+pub word-a : (c : Chip) (w : Word) (f g : Bool) (p x y : Port) → p ≡ obeyed false (c .a) w
+    → f ≡ follows A (made p (ready-at (c .b .ready && Bool·beq (c .a .mode is 2) (p .mode is 2)) (c .b))) → x ≡ settled f true p
+    → g ≡ follows B (made p (ready-at (c .b .ready && Bool·beq (c .a .mode is 2) (p .mode is 2)) (c .b)))
+    → y ≡ settled g (not (p .mode is 2)) (ready-at (c .b .ready && Bool·beq (c .a .mode is 2) (p .mode is 2)) (c .b)) → made x y ≡ settle (obey A w c)
+word-a c w f g p x y i j k l m = rw (k, j, m, l, i)
