@@ -5,7 +5,7 @@ use mathlib.Core.Bool.{Bool, true, false, _&&_, _||_, not, Bool·beq}
 use Prim.Native.Nat.{ℕ}
 use Rattle.bits.specs.Bits.{if_then_else_, _is_}
 use Rattle.bits.proofs.Logic.{both, beq-is}
-use Rattle.port.specs.Fields.{input-at, waiting-at, matched-at, ready-at}
+use Rattle.port.specs.Fields.{input-at, waiting-at, matched-at, ready-at, strobe-at as port-strobe-at}
 use Rattle.port.specs.Words.{obeyed}
 use Rattle.port.specs.Rules.{written, accessed, strobed, linesNow, matchNow, settled}
 use Rattle.port.specs.Sound.{restsOf}
@@ -19,6 +19,7 @@ use Rattle.chip.specs.Sound.{soundChip}
 use Rattle.chip.specs.Act.{step}
 use Rattle.chip.proofs.Keep.{apart, rest-same}
 use Rattle.chip.proofs.Ways.{made}
+use Rattle.chain.specs.Marks.{markOf}
 use Rattle.board.proofs.Ways.{off as turned-off, on as turned-on}
 use Rattle.run.specs.Fast.{following, followed}
 
@@ -83,12 +84,6 @@ module _ (c : Chip) (s : Bool) where
       let r = apart c h .1 in
       follows-all (changed B (strobe level) c) (matched-now (follows A c) true (c .a) (r .0)) (matched-now (follows B c) (not (off B c)) (c .b) (r .1))
 
-  pub strobe-at-b : (level : Bool) (q : Port) (d : Chip) → s ≡ true → q ≡ strobed (acts B c) level (c .b) → d ≡ followed (made (c .a) q) → soundChip c ≡ true → d ≡ step (side s) (strobe level) c
-  strobe-at-b level q d e i j h = rw (e, j, i) (strobe-side B level h)
-
-  pub strobe-at-a : (level : Bool) (q : Port) (d : Chip) → s ≡ false → q ≡ strobed (acts A c) level (c .a) → d ≡ followed (made q (c .b)) → soundChip c ≡ true → d ≡ step (side s) (strobe level) c
-  strobe-at-a level q d e i j h = rw (e, j, i) (strobe-side A level h)
-
   -- ---- outside levels: the other port is as it was
   pub lines-at-b : (v : ℕ) (f : Bool) (p q : Port) → s ≡ true → p ≡ linesNow v (c .b) → f ≡ follows B c → q ≡ settled f (not (c .a .mode is 2)) p → soundChip c ≡ true → made (c .a) q ≡ step (side s) (outside v) c
   unfolding step
@@ -97,6 +92,38 @@ module _ (c : Chip) (s : Bool) where
   pub lines-at-a : (v : ℕ) (f : Bool) (p q : Port) → s ≡ false → p ≡ linesNow v (c .a) → f ≡ follows A c → q ≡ settled f true p → soundChip c ≡ true → made q (c .b) ≡ step (side s) (outside v) c
   unfolding step
   lines-at-a v f p q e i j k h = rw (e, k, j, i) (ap (made (settled (follows A c) true (linesNow v (c .a)))) (sym (rests-settled (follows B c) (not (off B c)) (c .b) (apart c h .1 .1))))
+
+-- a strobe that stays at its level ends nothing
+never : (s acts : Bool) → (not s && s && acts) ≡ false
+never true acts = refl
+never false acts = refl
+
+keeps-ready : (r e : Bool) → e ≡ false → (r && not e) ≡ r
+keeps-ready true e h = rw h
+keeps-ready false e h = refl
+
+keeps-waiting : (w e : Bool) → e ≡ false → (w || e) ≡ w
+keeps-waiting true e h = refl
+keeps-waiting false e h = h
+
+keeps-both : (p : Port) (r w : Bool) → r ≡ p .ready → w ≡ p .waiting → port-strobe-at (p .strobe) (ready-at r (waiting-at w p)) ≡ p
+keeps-both p r w e f = rw (e, f)
+
+strobed-same : (acts : Bool) (p : Port) → strobed acts (p .strobe) p ≡ p
+strobed-same acts p =
+    let e = never (p .strobe) acts in
+    keeps-both p (p .ready && not (not (p .strobe) && p .strobe && acts)) (p .waiting || (not (p .strobe) && p .strobe && acts))
+    (keeps-ready (p .ready) _ e) (keeps-waiting (p .waiting) _ e)
+
+strobe-both : (c : Chip) (s level : Bool) → soundChip c ≡ true
+    → followed (made (strobed (acts A c) (if s then c .a .strobe else level) (c .a)) (strobed (acts B c) (if s then level else c .b .strobe) (c .b))) ≡ step (side s) (strobe level) c
+unfolding if_then_else_
+strobe-both c true level h = ap (λ (x : Port). followed (made x (strobed (acts B c) level (c .b)))) (strobed-same (acts A c) (c .a)) ∙ strobe-side c true B level h
+strobe-both c false level h = ap (λ (x : Port). followed (made (strobed (acts A c) level (c .a)) x)) (strobed-same (acts B c) (c .b)) ∙ strobe-side c false A level h
+
+pub strobe-at : (c : Chip) (s level x y : Bool) (p q : Port) (d : Chip) → x ≡ (if s then c .a .strobe else level) → y ≡ (if s then level else c .b .strobe)
+    → p ≡ strobed (acts A c) x (c .a) → q ≡ strobed (acts B c) y (c .b) → d ≡ followed (made p q) → soundChip c ≡ true → d ≡ step (side s) (strobe level) c
+strobe-at c s level x y p q d e f i j k h = rw (k, i, j, e, f) (strobe-both c s level h)
 
 -- ---- a control word to B: no word moves the strobe, so A rests as before
 obeyed-strobe : (linked : Bool) (p : Port) (w : Word) → obeyed linked p w .strobe ≡ p .strobe
@@ -123,3 +150,25 @@ pub word-a : (c : Chip) (w : Word) (f g : Bool) (p x y : Port) → p ≡ obeyed 
     → g ≡ follows B (made p (ready-at (c .b .ready && Bool·beq (c .a .mode is 2) (p .mode is 2)) (c .b)))
     → y ≡ settled g (not (p .mode is 2)) (ready-at (c .b .ready && Bool·beq (c .a .mode is 2) (p .mode is 2)) (c .b)) → made x y ≡ settle (obey A w c)
 word-a c w f g p x y i j k l m = rw (k, j, m, l, i)
+
+-- ---- the mark, where no bit that it is made of has changed
+pub same-bits : (c d : Chip) (old : ℕ)
+    → ((Bool·beq (c .a .service) (d .a .service) && Bool·beq (c .a .waiting) (d .a .waiting) && Bool·beq (c .a .live) (d .a .live))
+    && (Bool·beq (c .b .service) (d .b .service) && Bool·beq (c .b .waiting) (d .b .waiting) && Bool·beq (c .b .live) (d .b .live))) ≡ true
+    → old ≡ markOf c → old ≡ markOf d
+unfolding markOf
+same-bits c d old t e =
+    let x = both (Bool·beq (c .a .service) (d .a .service) && Bool·beq (c .a .waiting) (d .a .waiting) && Bool·beq (c .a .live) (d .a .live))
+    (Bool·beq (c .b .service) (d .b .service) && Bool·beq (c .b .waiting) (d .b .waiting) && Bool·beq (c .b .live) (d .b .live)) t in
+    let y = both (Bool·beq (c .a .service) (d .a .service) && Bool·beq (c .a .waiting) (d .a .waiting)) (Bool·beq (c .a .live) (d .a .live)) (x .0) in
+    let z = both (Bool·beq (c .a .service) (d .a .service)) (Bool·beq (c .a .waiting) (d .a .waiting)) (y .0) in
+    let u = both (Bool·beq (c .b .service) (d .b .service) && Bool·beq (c .b .waiting) (d .b .waiting)) (Bool·beq (c .b .live) (d .b .live)) (x .1) in
+    let v = both (Bool·beq (c .b .service) (d .b .service)) (Bool·beq (c .b .waiting) (d .b .waiting)) (u .0) in
+    rw (
+      ← beq-is (c .a .service) (d .a .service) (z .0),
+      ← beq-is (c .a .waiting) (d .a .waiting) (z .1),
+      ← beq-is (c .a .live) (d .a .live) (y .1),
+      ← beq-is (c .b .service) (d .b .service) (v .0),
+      ← beq-is (c .b .waiting) (d .b .waiting) (v .1),
+      ← beq-is (c .b .live) (d .b .live) (u .1),
+    ) e

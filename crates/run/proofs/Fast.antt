@@ -3,7 +3,7 @@
 use mathlib.Core.Path.{_≡_, refl, sym, ap, _∙_}
 use mathlib.Core.Bool.{Bool, true, false, _&&_, not}
 use mathlib.Core.List.{List, [], _∷_}
-use Prim.Native.Nat.{ℕ, _+_, _-_, _*_, _≤_, _<_}
+use Prim.Native.Nat.{ℕ, _+_, _*_, _≤_, _<_}
 use native.Mathlib.Nat.{add-zero}
 use native.Mathlib.Omega.{arith}
 use lib.Dec.{leb}
@@ -58,24 +58,23 @@ passed d marks value request =
     record { whole = false; one = false; chip = 0; second = false; kind = 1; code = 0; place = 0; value = value; request = request; marks = marks; decoder = d }
 
 passing-plan : (size : ℕ) (d : Decoder) (marks : List ℕ) (due : Bool) (request : ℕ) (e : List ℕ) → 1 ≤ size → length e ≡ 4
-    → passesOf d due (kindOf e) (placeOf e) (valueOf e) (lastOf e) ≡ true → passed (nextOf d (valueOf e)) marks (valueOf e) request ≡ planOf size d marks due request e
+    → kindOf e ≡ 1 → passesOf d due (placeOf e) (valueOf e) (lastOf e) ≡ true → passed (nextOf d (valueOf e)) marks (valueOf e) request ≡ planOf size d marks due request e
 unfolding passesOf planOf earlyOf acceptedPlan fetchPlan if_then_else_
-passing-plan size d marks due request e s l h =
-    let a = both ((kindOf e is 1) && (placeOf e is 0) && (lastOf e is 0) && not due) (not (retiOf d (valueOf e))) h in
-    let b = both ((kindOf e is 1) && (placeOf e is 0) && (lastOf e is 0)) (not due) (a .0) in
-    let c = both ((kindOf e is 1) && (placeOf e is 0)) (lastOf e is 0) (b .0) in
-    let f = both (kindOf e is 1) (placeOf e is 0) (c .0) in
-    rw (l, eqb-true (kindOf e) 1 (f .0), eqb-true (placeOf e) 0 (f .1), eqb-true (lastOf e) 0 (c .1), off due (b .1), off (retiOf d (valueOf e)) (a .1), lt-ltb 0 (size * 2) (omega (arith, s)))
+passing-plan size d marks due request e s l k h =
+    let a = both ((placeOf e is 0) && (lastOf e is 0) && not due) (not (retiOf d (valueOf e))) h in
+    let b = both ((placeOf e is 0) && (lastOf e is 0)) (not due) (a .0) in
+    let c = both (placeOf e is 0) (lastOf e is 0) (b .0) in
+    rw (l, k, eqb-true (placeOf e) 0 (c .0), eqb-true (lastOf e) 0 (c .1), off due (b .1), off (retiOf d (valueOf e)) (a .1), lt-ltb 0 (size * 2) (omega (arith, s)))
 
 module _ (es old : List ℕ) (start : ℕ) (b₀ : Board) (n : ℕ) (out : List ℕ) (b : Board) (marks : List ℕ) (request : ℕ) (due : Bool) (i : ℕ)
     (inv : Running es old start b₀ n out b i × Kept b marks request due) (h : i < n) (he : 4 * n ≤ length es) (ho : 4 * (start + n) ≤ length old)
     (byte : getD es (4 * i + 2) 0 < 256) where
-  pub passing-turn : (d : Decoder) (out′ : List ℕ) → passesOf (b .decoder) due (getD es (4 * i) 0) (getD es (4 * i + 1) 0) (getD es (4 * i + 2) 0) (getD es (4 * i + 3) 0) ≡ true
+  pub passing-turn : (d : Decoder) (out′ : List ℕ) → getD es (4 * i) 0 ≡ 1 → passesOf (b .decoder) due (getD es (4 * i + 1) 0) (getD es (4 * i + 2) 0) (getD es (4 * i + 3) 0) ≡ true
       → d ≡ nextOf (b .decoder) (getD es (4 * i + 2) 0) → out′ ≡ splice out (4 * (start + i)) (0 ∷ 0 ∷ getD es (4 * i + 2) 0 ∷ request ∷ [])
       → Running es old start b₀ n out′ (record { size = b .size; chips = b .chips; decoder = d }) (i + 1) × Kept (record { size = b .size; chips = b .chips; decoder = d }) marks request due
-  passing-turn d out′ t e o =
+  passing-turn d out′ k t e o =
       let plan = passing-plan (b .size) (b .decoder) marks due request (record-at es i) (size-some b (inv .1 .sound)) (record-long es i n h he)
-      (rw (kind-at es i, byte-at es i 1 (omega arith), byte-at es i 2 (omega arith), byte-at es i 3 (omega arith)) t) in
+      (kind-at es i ∙ k) (rw (byte-at es i 1 (omega arith), byte-at es i 2 (omega arith), byte-at es i 3 (omega arith)) t) in
       let value = byte-at es i 2 (omega arith) in
       idle-turn es old start b₀ n out b marks request due i inv h he ho byte (passed d marks (getD es (4 * i + 2) 0) request)
       (rw (e, part-is es i, ← plan, value)) out′ refl refl o

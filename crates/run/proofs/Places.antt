@@ -85,6 +85,13 @@ quiet-at b k h s =
     rw (← getD-take (b .size) (b .chips) k blank h)
     (stirs-none (getD (there b) k blank) (sym (fetched-at (there b) k) ∙ ap (λ (l : List Chip). getD l k blank) s))
 
+-- the mark at an index
+mark-at : (n : ℕ) (cs : List Chip) (k : ℕ) → k < n → k < length cs → getD (marksOf n cs) k 0 ≡ markOf (getD cs k blank)
+mark-at n [] k h l = absurd (not-suc-le-zero l)
+mark-at zero (c ∷ cs) k h l = absurd (not-suc-le-zero h)
+mark-at (suc n) (c ∷ cs) zero h l = refl
+mark-at (suc n) (c ∷ cs) (suc k) h l = mark-at n cs k (le-of-suc-le-suc h) (le-of-suc-le-suc l)
+
 either : (x y : Bool) → (x || y) ≡ false → (x ≡ false) × (y ≡ false)
 either true y e = absurd (true≢false e)
 either false y e = (refl, e)
@@ -167,6 +174,9 @@ module _ (es old : List ℕ) (start : ℕ) (b₀ : Board) (n : ℕ) (out : List 
   abbrev Turned : List ℕ → Board → List ℕ → ℕ → Bool → Type 0
   Turned out′ b′ marks′ q due′ = Running es old start b₀ n out′ b′ (i + 1) × Kept b′ marks′ q due′
 
+  abbrev remarks : ℕ → Chip → Type 0
+  remarks m d = getD marks k 0 ≡ markOf c → m ≡ markOf d
+
   abbrev renews : ℕ → ℕ → Type 0
   renews m q = request ≡ signalOf marks → q ≡ signalOf (set marks k m)
 
@@ -178,6 +188,9 @@ module _ (es old : List ℕ) (start : ℕ) (b₀ : Board) (n : ℕ) (out : List 
 
   sound-here : soundChip c ≡ true
   sound-here = chip-sound b k (inv .1 .sound) (inv .1 .row) fits
+
+  mark-here : getD marks k 0 ≡ markOf c
+  mark-here = ap (λ (ms : List ℕ). getD ms k 0) (inv .1 .marked) ∙ mark-at (b .size) (b .chips) k fits (omega (arith, fits, inv .1 .row, size-fits b (inv .1 .sound) (inv .1 .row)))
 
   quiet-here : due ≡ false → stirs c ≡ false
   quiet-here z = quiet-at b k fits (inv .1 .still z)
@@ -233,20 +246,20 @@ module _ (es old : List ℕ) (start : ℕ) (b₀ : Board) (n : ℕ) (out : List 
 
   -- ---- the five kinds
   pub strobe-turn : (d : Chip) (m q : ℕ) (out′ : List ℕ) → ((getD es (4 * i) 0 is 6) && ltb value 2) ≡ true → (soundChip c ≡ true → d ≡ step (sideOf place) (strobe (value is 1)) c)
-      → m ≡ markOf d → renews m q → wrote out′ 0 value q → Turned out′ (with-chip d) (set marks k m) q due
+      → remarks m d → renews m q → wrote out′ 0 value q → Turned out′ (with-chip d) (set marks k m) q due
   unfolding step
   strobe-turn d m q out′ t e g r o =
       let s = both (getD es (4 * i) 0 is 6) (ltb value 2) t in
       changed-turn 6 (eqb-true (getD es (4 * i) 0) 6 (s .0)) (omega arith) (omega arith) (rw (s .1)) d 0 value m q due out′
-      (act-strobe (sideOf place) 6 value c (changed (sideOf place) (strobe (value is 1)) c) d refl refl refl refl refl (e sound-here)) g r
+      (act-strobe (sideOf place) 6 value c (changed (sideOf place) (strobe (value is 1)) c) d refl refl refl refl refl (e sound-here)) (g mark-here) r
       (λ z. (z, ap stirs (e sound-here) ∙ strobe-leaves (sideOf place) (value is 1) c ∙ quiet-here z)) o
 
   pub lines-turn : (d : Chip) (m q : ℕ) (out′ : List ℕ) → getD es (4 * i) 0 ≡ 7 → (soundChip c ≡ true → d ≡ step (sideOf place) (outside value) c)
-      → m ≡ markOf d → renews m q → wrote out′ 0 value q → Turned out′ (with-chip d) (set marks k m) q due
+      → remarks m d → renews m q → wrote out′ 0 value q → Turned out′ (with-chip d) (set marks k m) q due
   unfolding step
   lines-turn d m q out′ t e g r o =
       changed-turn 7 t (omega arith) (omega arith) refl d 0 value m q due out′
-      (act-outside (sideOf place) 7 value c (changed (sideOf place) (outside value) c) d refl refl refl refl refl (e sound-here)) g r
+      (act-outside (sideOf place) 7 value c (changed (sideOf place) (outside value) c) d refl refl refl refl refl (e sound-here)) (g mark-here) r
       (λ z. (z, ap stirs (e sound-here) ∙ lines-leave (sideOf place) value c ∙ quiet-here z)) o
 
   pub read-turn : (p : Port) (u : ℕ) (d : Chip) (out′ : List ℕ) → ((getD es (4 * i) 0 is 5) && (value is 0)) ≡ true → p ≡ port (sideOf place) c → u ≡ shownOf p
@@ -269,25 +282,35 @@ module _ (es old : List ℕ) (start : ℕ) (b₀ : Board) (n : ℕ) (out : List 
       (act-write (sideOf place) 4 value c (changed (sideOf place) (write value) c) d refl refl refl (e sound-here)) (ap markOf f ∙ y .0) (ap stirs f ∙ y .1) o
 
   -- ---- a control byte
-  module _ (t : getD es (4 * i) 0 ≡ 3) (p : Port) (hd : Heard) (ip : p ≡ port (sideOf place) c) (ih : hd ≡ heardOf (p .awaiting) (place % 2 is 1) value) where
+  module _ (t : getD es (4 * i) 0 ≡ 3) (second : Bool) (s : (place % 2 is 1) ≡ second) (p : Port) (hd : Heard) (ip : p ≡ port (side second) c) (ih : hd ≡ heardOf (p .awaiting) second value) where
+    its-port : p ≡ port (sideOf place) c
+    its-port = rw s ip
+
+    its-word : hd ≡ heardOf (p .awaiting) (place % 2 is 1) value
+    its-word = rw s ih
+
     pub refused-turn : (code : ℕ) (out′ : List ℕ) → OneOf (1 ∷ 2 ∷ []) (tagOf told.the-type hd) → code ≡ codeOf hd → wrote out′ code value request → Turned out′ b marks request due
     refused-turn code out′ g q o =
         idle-turn 3 t (omega arith) (omega arith) refl code value out′
-        (act-control (sideOf place) 3 value c (acted c code value) refl (left-early (place % 2 is 1) value code c p hd ip ih q g)) o
+        (act-control (sideOf place) 3 value c (acted c code value) refl (left-early (place % 2 is 1) value code c p hd its-port its-word q g)) o
 
-    pub word-turn-b : (x : Word) (d : Chip) (m q : ℕ) (y : Bool) (out′ : List ℕ) → hd ≡ Said x → (place % 2 is 1) ≡ true → (soundChip c ≡ true → d ≡ settle (obey (side true) x c))
-        → m ≡ markOf d → renews m q → y ≡ stirsPort (d .b) → wrote out′ 0 value q → Turned out′ (with-chip d) (set marks k m) q (due || y)
-    word-turn-b x d m q y out′ j s e g r l o =
+    word-turn : (x : Word) (d : Chip) (m q : ℕ) (y : Bool) (out′ : List ℕ) → hd ≡ Said x → d ≡ settle (obey (side second) x c) → remarks m d → renews m q
+        → (due ≡ false → y ≡ false → stirs d ≡ false) → wrote out′ 0 value q → Turned out′ (with-chip d) (set marks k m) q (due || y)
+    word-turn x d m q y out′ j f g r l o =
+        changed-turn 3 t (omega arith) (omega arith) refl d 0 value m q (due || y) out′
+        (act-control (sideOf place) 3 value c (acted d 0 value) refl
+        (went-on (place % 2 is 1) value c (obey (sideOf place) x c) d p hd x its-port its-word j refl (rw s f))) (g mark-here) r
+        (λ z. let u = either due y z in (u .0, l (u .0) (u .1))) o
+
+    pub word-turn-b : (x : Word) (d : Chip) (m q : ℕ) (y : Bool) (out′ : List ℕ) → second ≡ true → hd ≡ Said x → (soundChip c ≡ true → d ≡ settle (obey (side true) x c))
+        → remarks m d → renews m q → y ≡ stirsPort (d .b) → wrote out′ 0 value q → Turned out′ (with-chip d) (set marks k m) q (due || y)
+    word-turn-b x d m q y out′ n j e g r l o =
         let f = e sound-here in
-        changed-turn 3 t (omega arith) (omega arith) refl d 0 value m q (due || y) out′
-        (act-control (sideOf place) 3 value c (acted d 0 value) refl
-        (went-on (place % 2 is 1) value c (obey (sideOf place) x c) d p hd x ip ih j refl (rw s f))) g r
-        (λ z. let u = either due y z in (u .0, ap stirs f ∙ word-b-leaves x c (quiet-here (u .0)) (ap (λ (e′ : Chip). stirsPort (e′ .b)) (sym f) ∙ sym l ∙ u .1))) o
+        word-turn x d m q y out′ j (rw n f) g r
+        (λ z u. ap stirs f ∙ word-b-leaves x c (quiet-here z) (ap (λ (e′ : Chip). stirsPort (e′ .b)) (sym f) ∙ sym l ∙ u)) o
 
-    pub word-turn-a : (x : Word) (d : Chip) (m q : ℕ) (y : Bool) (out′ : List ℕ) → hd ≡ Said x → (place % 2 is 1) ≡ false → d ≡ settle (obey (side false) x c)
-        → m ≡ markOf d → renews m q → y ≡ stirsPort (d .a) → wrote out′ 0 value q → Turned out′ (with-chip d) (set marks k m) q (due || y)
-    word-turn-a x d m q y out′ j s f g r l o =
-        changed-turn 3 t (omega arith) (omega arith) refl d 0 value m q (due || y) out′
-        (act-control (sideOf place) 3 value c (acted d 0 value) refl
-        (went-on (place % 2 is 1) value c (obey (sideOf place) x c) d p hd x ip ih j refl (rw s f))) g r
-        (λ z. let u = either due y z in (u .0, ap stirs f ∙ word-a-leaves x c (quiet-here (u .0)) (ap (λ (e′ : Chip). stirsPort (e′ .a)) (sym f) ∙ sym l ∙ u .1))) o
+    pub word-turn-a : (x : Word) (d : Chip) (m q : ℕ) (y : Bool) (out′ : List ℕ) → second ≡ false → hd ≡ Said x → d ≡ settle (obey (side false) x c)
+        → remarks m d → renews m q → y ≡ stirsPort (d .a) → wrote out′ 0 value q → Turned out′ (with-chip d) (set marks k m) q (due || y)
+    word-turn-a x d m q y out′ n j f g r l o =
+        word-turn x d m q y out′ j (rw n f) g r
+        (λ z u. ap stirs f ∙ word-a-leaves x c (quiet-here z) (ap (λ (e′ : Chip). stirsPort (e′ .a)) (sym f) ∙ sym l ∙ u)) o

@@ -12,8 +12,8 @@ use Rattle.chain.specs.declared.Decoder.{Decoder}
 use Rattle.chain.specs.Decode.{retiOf}
 
 -- a fetch that changes the decoder alone: no port is stirred (`due`), and no RETI ends
-unfoldable pub passesOf : Decoder → Bool → ℕ → ℕ → ℕ → ℕ → Bool
-passesOf d due kind place value last = (kind is 1) && (place is 0) && (last is 0) && not due && not (retiOf d value)
+unfoldable pub passesOf : Decoder → Bool → ℕ → ℕ → ℕ → Bool
+passesOf d due place value last = (place is 0) && (last is 0) && not due && not (retiOf d value)
 
 -- the input register takes its lines, if it follows them; and both of a chip
 abbrev pub following : Bool → Port → Port

@@ -8,10 +8,12 @@ use port::Heard;
 use port::Port;
 use port::Word;
 ghost use mathlib.Core.Path.{_≡_};
-ghost use mathlib.Core.Bool.{Bool, true, false};
+ghost use mathlib.Core.Bool.{true, false};
 ghost use Prim.Native.Nat.{_+_, _*_, _/_, _%_, _≤_};
 ghost use lib.ListN.{length, set};
+ghost use Rattle.bits.specs.Bits.{if_then_else_};
 ghost use Rattle.buffers.specs.Splice.{splice};
+ghost use Rattle.chain.specs.Marks.{markOf};
 ghost use Rattle.board.specs.Board.{soundBoard};
 ghost use Rattle.board.specs.Halves.{lookOf, signalOf, stirsPort};
 ghost use Rattle.chip.specs.Chip.{side, write, read, strobe, outside, settle, obey};
@@ -47,11 +49,11 @@ fn refusal(sound: bool, events: usize, room: usize, start: usize) -> u8
     0
 }
 
-// Whether the record is a fetch that changes the decoder alone.
-fn passes(decoder: Decoder, due: bool, kind: u8, place: u8, value: u8, last: u8) -> bool
-    ensures { λ r. ⌜ r ≡ passesOf decoder due kind place value last ⌝ }
+// Whether a fetch changes the decoder alone.
+fn passes(decoder: Decoder, due: bool, place: u8, value: u8, last: u8) -> bool
+    ensures { λ r. ⌜ r ≡ passesOf decoder due place value last ⌝ }
 {
-    (kind == 1) & (place == 0) & (last == 0) & !due & !decoder.reti(value)
+    (place == 0) & (last == 0) & !due & !decoder.reti(value)
 }
 
 // ---- one event at a sound chip, with no more settling than it can need
@@ -117,19 +119,28 @@ fn follow(c: Chip) -> Chip
     }
 }
 
-// A strobe level: registers may follow, and no match changes.
+// The level of a strobe that an event may move.
+fn level_at(moved: bool, level: bool, old: bool) -> bool
+    ensures { λ r. ⌜ r ≡ (if moved then level else old) ⌝ }
+{
+    if moved {
+        return level;
+    }
+    old
+}
+
+// A strobe level: registers may follow, and no match changes. The other strobe stays at its level, which is no edge.
 fn strobe_at(c: Chip, on_b: bool, level: bool) -> Chip
     ensures { λ r. ⌜ (soundChip c ≡ true → r ≡ step (side «on_b») (strobe level) c) ⌝ }
 {
     let a = c.a;
     let b = c.b;
     let two = a.mode == 2;
-    if on_b {
-        let q = port::strobe(b, two | (b.mode == 0) | (b.mode == 1), level);
-        return follow(Chip { a: a, b: q });
-    }
-    let q = port::strobe(a, two | (a.mode == 0) | (a.mode == 1), level);
-    follow(Chip { a: q, b: b })
+    let x = level_at(on_b, a.strobe, level);
+    let y = level_at(on_b, level, b.strobe);
+    let p = port::strobe(a, two | (a.mode == 0) | (a.mode == 1), x);
+    let q = port::strobe(b, two | (b.mode == 0) | (b.mode == 1), y);
+    follow(Chip { a: p, b: q })
 }
 
 // Outside levels: the port that has the lines settles.
@@ -190,6 +201,22 @@ fn stirs_port(p: Port) -> bool
     p.asked & !(p.awaiting == 2) & !p.live
 }
 
+// The mark of the chip `d` that was `c` with the mark `old`.
+fn remark(c: Chip, d: Chip, old: u8) -> u8
+    ensures { λ r. ⌜ (old ≡ markOf c → r ≡ markOf d) ⌝ }
+{
+    let a = c.a;
+    let b = c.b;
+    let x = d.a;
+    let y = d.b;
+    let first = (a.service == x.service) & (a.waiting == x.waiting) & (a.live == x.live);
+    let second = (b.service == y.service) & (b.waiting == y.waiting) & (b.live == y.live);
+    if first & second {
+        return old;
+    }
+    chain::mark(d)
+}
+
 // The request after the chip `k` has the mark `mark`.
 fn renewed(marks: [u8; 4], k: usize, mark: u8, request: u8) -> u8
     ensures { λ r. ⌜ (request ≡ signalOf marks → r ≡ signalOf (set marks k mark)) ⌝ }
@@ -236,10 +263,12 @@ fn run_records(
         let last = events[at + 3];
         i += 1;
         // The short ways first: a fetch that changes the decoder alone, and the events of kinds 3 to 7 that nothing refuses.
-        if passes(decoder, due, kind, place, value, last) {
-            decoder = decoder.next(value);
-            buffers::put_record(&mut answers[to..], 0, 0, value, request);
-            continue;
+        if kind == 1 {
+            if passes(decoder, due, place, value, last) {
+                decoder = decoder.next(value);
+                buffers::put_record(&mut answers[to..], 0, 0, value, request);
+                continue;
+            }
         }
         let k = (place / 2 % 4) as usize;
         let on_b = place % 2 == 1;
@@ -248,7 +277,8 @@ fn run_records(
                 let c = chips[k];
                 let d = strobe_at(c, on_b, value == 1);
                 chips[k] = d;
-                let m = chain::mark(d);
+                let old = marks[k];
+                let m = remark(c, d, old);
                 request = renewed(marks, k, m, request);
                 marks[k] = m;
                 buffers::put_record(&mut answers[to..], 0, place, value, request);
@@ -258,7 +288,8 @@ fn run_records(
                 let c = chips[k];
                 let d = lines_at(c, on_b, value);
                 chips[k] = d;
-                let m = chain::mark(d);
+                let old = marks[k];
+                let m = remark(c, d, old);
                 request = renewed(marks, k, m, request);
                 marks[k] = m;
                 buffers::put_record(&mut answers[to..], 0, place, value, request);
@@ -281,19 +312,19 @@ fn run_records(
                 continue;
             }
             if kind == 3 {
-                let c = chips[k];
-                let p = chip::port_of(c, on_b);
-                let h = port::hear(p.awaiting, on_b, value);
-                let Heard::Said(w) = h else {
-                    let code = port::code(h);
-                    buffers::put_record(&mut answers[to..], code, place, value, request);
-                    continue;
-                };
                 if on_b {
                     let c = chips[k];
+                    let p = c.b;
+                    let h = port::hear(p.awaiting, true, value);
+                    let Heard::Said(w) = h else {
+                        let code = port::code(h);
+                        buffers::put_record(&mut answers[to..], code, place, value, request);
+                        continue;
+                    };
                     let d = word_to_b(c, w);
                     chips[k] = d;
-                    let m = chain::mark(d);
+                    let old = marks[k];
+                    let m = remark(c, d, old);
                     request = renewed(marks, k, m, request);
                     marks[k] = m;
                     due = due | stirs_port(d.b);
@@ -301,9 +332,17 @@ fn run_records(
                     continue;
                 }
                 let c = chips[k];
+                let p = c.a;
+                let h = port::hear(p.awaiting, false, value);
+                let Heard::Said(w) = h else {
+                    let code = port::code(h);
+                    buffers::put_record(&mut answers[to..], code, place, value, request);
+                    continue;
+                };
                 let d = word_to_a(c, w);
                 chips[k] = d;
-                let m = chain::mark(d);
+                let old = marks[k];
+                let m = remark(c, d, old);
                 request = renewed(marks, k, m, request);
                 marks[k] = m;
                 due = due | stirs_port(d.a);

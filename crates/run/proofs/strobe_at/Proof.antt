@@ -1,7 +1,7 @@
 -- `run::strobe_at` meets its contract.
 -- Assumes nothing.
 use borrow.Author.Needs.{needs}
-use Rattle.run.proofs.Chips.{strobe-at-b, strobe-at-a}
+use Rattle.run.proofs.Chips.{strobe-at}
 use Rattle.run.proofs.strobe_at.Statement.{statement}
 use Rattle.run.proofs.strobe_at.Tie as tie
 
@@ -11,7 +11,7 @@ strobe-at-spec =
     (tie.spec
     (λ c κs. search needs)
     (λ c κs. search needs)
-    (λ c h. search strobe-at-b)
     (λ c κs. search needs)
     (λ c κs. search needs)
-    (λ c h. search strobe-at-a))
+    (λ c κs. search needs)
+    (λ c h. search strobe-at))
