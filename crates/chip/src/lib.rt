@@ -114,7 +114,7 @@ fn control(c: Chip, on_b: bool, value: u8) -> Acted
 }
 
 // The CPU writes data to a port.
-fn write_data(c: Chip, on_b: bool, value: u8) -> Chip
+pub fn write_data(c: Chip, on_b: bool, value: u8) -> Chip
     ensures { λ r. ⌜ r ≡ changed (side «on_b») (write value) c ⌝ }
 {
     let a = c.a;
@@ -132,7 +132,7 @@ fn write_data(c: Chip, on_b: bool, value: u8) -> Chip
 }
 
 // The CPU has read a port. A read of A in mode 2 raises B's Ready.
-fn read_data(c: Chip, on_b: bool) -> Chip
+pub fn read_data(c: Chip, on_b: bool) -> Chip
     ensures { λ r. ⌜ r ≡ changed (side «on_b») read c ⌝ }
 {
     let a = c.a;

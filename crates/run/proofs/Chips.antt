@@ -53,24 +53,17 @@ pub both-follow : (c : Chip) (f g : Bool) (x y : Port) → f ≡ follows A c →
 both-follow c f g x y i j k l = rw (k, l, i, j)
 
 -- ---- data: nothing is left to settle
+pub write-at : (c : Chip) (s : Bool) (v : ℕ) (d : Chip) → d ≡ changed (side s) (write v) c → soundChip c ≡ true → d ≡ step (side s) (write v) c
+unfolding step matchNow
+write-at c true v d i h = i ∙ sym (rest-same (changed B (write v) c) (apart c h .1))
+write-at c false v d i h = i ∙ sym (rest-same (changed A (write v) c) (apart c h .1))
+
+pub read-at : (c : Chip) (s : Bool) (d : Chip) → d ≡ changed (side s) read c → soundChip c ≡ true → d ≡ step (side s) read c
+unfolding step matchNow
+read-at c true d i h = i ∙ sym (rest-same (changed B read c) (apart c h .1))
+read-at c false d i h = i ∙ sym (rest-same (changed A read c) (apart c h .1))
+
 module _ (c : Chip) (s : Bool) where
-  pub write-at-b : (v : ℕ) (q : Port) → s ≡ true → q ≡ written (c .a .mode is 2) v (c .b) → soundChip c ≡ true → made (c .a) q ≡ step (side s) (write v) c
-  unfolding step matchNow
-  write-at-b v q e i h = rw (e, i) (sym (rest-same (changed B (write v) c) (apart c h .1)))
-
-  pub write-at-a : (v : ℕ) (q : Port) → s ≡ false → q ≡ written false v (c .a) → soundChip c ≡ true → made q (c .b) ≡ step (side s) (write v) c
-  unfolding step matchNow
-  write-at-a v q e i h = rw (e, i) (sym (rest-same (changed A (write v) c) (apart c h .1)))
-
-  pub read-at-b : (q : Port) → s ≡ true → q ≡ accessed (c .a .mode is 2) (c .b) → soundChip c ≡ true → made (c .a) q ≡ step (side s) read c
-  unfolding step matchNow
-  read-at-b q e i h = rw (e, i) (sym (rest-same (changed B read c) (apart c h .1)))
-
-  pub read-at-a : (q : Port) → s ≡ false → q ≡ accessed false (c .a) → soundChip c ≡ true
-      → made q (ready-at (c .b .ready || (c .a .mode is 2)) (c .b)) ≡ step (side s) read c
-  unfolding step matchNow
-  read-at-a q e i h = rw (e, i) (sym (rest-same (changed A read c) (apart c h .1)))
-
   -- ---- a strobe: no match changes
   follows-all : (d : Chip) → d .a .matched ≡ (matchNow (d .a) && true) → d .b .matched ≡ (matchNow (d .b) && not (off B d)) → followed d ≡ settle d
   follows-all d m n = ap₂ (λ (x y : Port). made x y) (settled-input (follows A d) true (d .a) m) (settled-input (follows B d) (not (off B d)) (d .b) n)

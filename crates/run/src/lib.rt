@@ -62,39 +62,14 @@ fn passes(decoder: Decoder, due: bool, place: u8, value: u8, last: u8) -> bool
 fn write_at(c: Chip, on_b: bool, value: u8) -> Chip
     ensures { λ r. ⌜ (soundChip c ≡ true → r ≡ step (side «on_b») (write value) c) ⌝ }
 {
-    let a = c.a;
-    let b = c.b;
-    if on_b {
-        return Chip {
-            a: a,
-            b: port::write(b, a.mode == 2, value),
-        };
-    }
-    Chip {
-        a: port::write(a, false, value),
-        b: b,
-    }
+    chip::write_data(c, on_b, value)
 }
 
 // The CPU has read: nothing is left to settle.
 fn read_at(c: Chip, on_b: bool) -> Chip
     ensures { λ r. ⌜ (soundChip c ≡ true → r ≡ step (side «on_b») read c) ⌝ }
 {
-    let a = c.a;
-    let b = c.b;
-    let two = a.mode == 2;
-    if on_b {
-        return Chip {
-            a: a,
-            b: port::access(b, two),
-        };
-    }
-    let mut r = b;
-    r.ready = b.ready | two;
-    Chip {
-        a: port::access(a, false),
-        b: r,
-    }
+    chip::read_data(c, on_b)
 }
 
 // The port's input register takes its lines, if it follows them.
