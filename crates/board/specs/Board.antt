@@ -5,7 +5,7 @@ use mathlib.Core.List.{List, [], _∷_, _++_}
 use Prim.Native.Nat.{ℕ, _*_}
 use lib.Dec.{ltb, leb}
 use lib.ListN.{getD, take, drop, replicate}
-use Rattle.bits.specs.Bits.{if_then_else_, _is_}
+use Rattle.bits.specs.Bits.{if_then_else_}
 use Rattle.port.specs.Rules.{freshPort, drivenOf, levelsNow}
 use Rattle.port.specs.declared.Port.{Port}
 use Rattle.chip.specs.declared.Chip.{Chip}

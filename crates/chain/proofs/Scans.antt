@@ -6,7 +6,7 @@ use Prim.Native.Nat.{ℕ, zero, suc, _+_, _*_, _/_, _%_, _≤_, _<_}
 use native.Mathlib.Omega.{arith}
 use lib.ListN.{length, getD, drop, drop-of-length-le}
 use borrow.Author.Tests.{eq-eqb, ne-eqb}
-use Rattle.bits.specs.Bits.{if_then_else_, _is_}
+use Rattle.bits.specs.Bits.{if_then_else_}
 use Rattle.chain.specs.Marks.{up, callerOf, holderOf}
 use Rattle.chain.proofs.Places.{drop-at}
 

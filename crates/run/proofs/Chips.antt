@@ -7,7 +7,7 @@ use Rattle.bits.specs.Bits.{if_then_else_, _is_}
 use Rattle.bits.proofs.Logic.{both, beq-is}
 use Rattle.port.specs.Fields.{input-at, waiting-at, matched-at, ready-at, strobe-at as port-strobe-at}
 use Rattle.port.specs.Words.{obeyed}
-use Rattle.port.specs.Rules.{written, accessed, strobed, linesNow, matchNow, settled}
+use Rattle.port.specs.Rules.{strobed, linesNow, matchNow, settled}
 use Rattle.port.specs.Sound.{restsOf}
 use Rattle.port.specs.declared.Port.{Port}
 use Rattle.port.specs.declared.Word.{Word}

@@ -10,7 +10,7 @@ use lib.Dec.{ltb}
 use lib.ListN.{length, take, drop, getD}
 use lib.Seq.{getD-take, getD-drop}
 use borrow.Author.Tests.{lt-ltb, eq-eqb, ne-eqb, le-ltb}
-use Rattle.bits.specs.Bits.{if_then_else_, _is_}
+use Rattle.bits.specs.Bits.{if_then_else_}
 use Rattle.buffers.specs.Splice.{splice}
 use Rattle.board.specs.declared.Board.{Board}
 use Rattle.board.specs.declared.Answer.{Answer}
