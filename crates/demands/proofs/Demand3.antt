@@ -28,7 +28,8 @@ use Rattle.board.proofs.There.{after-length, there-taken}
 use Rattle.board.proofs.Quick.{after-quick, parts, step-sound}
 use Rattle.run.specs.Run.{bytesOf, stepsOf}
 use Rattle.demands.specs.Observer.{nothing}
-use Rattle.demands.specs.Demands.{underService, Listed, nearest, turn, acknowledge, Demand3, bytes, allBytes, found, FromFresh, FromSound, FromAny}
+use Rattle.demands.specs.Words.{acknowledge, underService, found, nearest, turn, bytes, allBytes}
+use Rattle.demands.specs.Demands.{Listed, Demand3, FromFresh, FromSound, FromAny}
 use Rattle.demands.proofs.Places.{nearing-places, nearing-short, nearer-first}
 use Rattle.demands.proofs.Turn.{asks-is, asks-yes, asks-no, quiet}
 use Rattle.demands.proofs.Refusals.{step-accepted}

@@ -10,7 +10,7 @@ use lib.Dec.{ltb, leb·zero, leb·suc-suc}
 use lib.ListN.{length, set}
 use borrow.Author.Tests.{le-ltb}
 use Rattle.chain.specs.Places.{first, places, adjust}
-use Rattle.demands.specs.Demands.{Nearing, nearer}
+use Rattle.demands.specs.Words.{Nearing, nearer}
 
 -- ---- the nearest set place
 pub first-set : (s : List Bool) (k : ℕ) → k < first s → first (set s k true) ≡ k

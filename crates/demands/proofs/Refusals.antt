@@ -14,7 +14,7 @@ use Rattle.chain.specs.Chain.{asks}
 use Rattle.board.specs.declared.Board.{Board}
 use Rattle.board.specs.Board.{ports, requestOf}
 use Rattle.board.specs.Step.{valueOf, Line, line, verdict, lines, refusal, Doing, reset, fetch, acknowledge, at, doingOf, taken, answerAt, answered, accepted, refused, stepOf}
-use Rattle.demands.specs.Demands.{listed, decides}
+use Rattle.demands.specs.Words.{listed, decides}
 
 -- ---- what all codes have, the verdict has
 abbrev pub each : (ℕ → Bool) → List Line → Bool

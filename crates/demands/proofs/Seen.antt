@@ -27,7 +27,7 @@ use Rattle.board.proofs.There.{there-taken}
 use Rattle.run.specs.Run.{records, bytesOf, stepsOf, answersOf}
 use Rattle.demands.specs.Observer.{Kept, nothing, code, fetched, see, seeAll}
 use Rattle.demands.specs.Observer as observer
-use Rattle.demands.specs.Demands.{underService, found}
+use Rattle.demands.specs.Words.{underService, found}
 use Rattle.demands.proofs.Turn.{farthest, farthest-served, farthest-released}
 use Rattle.demands.proofs.Refusals.{step-accepted, step-refused, accepted-code, refused-each}
 use Rattle.demands.proofs.Demand1.{not-four-bytes}

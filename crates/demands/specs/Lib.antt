@@ -1,3 +1,4 @@
 pub mod Sessions
 pub mod Observer
+pub mod Words
 pub mod Demands
