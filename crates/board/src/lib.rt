@@ -119,7 +119,7 @@ pub fn fresh(size: usize) -> Made
 }
 
 // Whether a fetch would make a port of the chip live.
-fn stirred(c: Chip) -> bool
+pub fn stirred(c: Chip) -> bool
     ensures { λ r. ⌜ r ≡ stirs c ⌝ }
 {
     let a = c.a;
@@ -162,7 +162,7 @@ pub fn signal(marks: [u8; 4]) -> u8
 }
 
 // The refusals that need no look at a port, or 0.
-fn early_refusal(size: u8, kind: u8, place: u8, value: u8, last: u8) -> u8
+pub fn early_refusal(size: u8, kind: u8, place: u8, value: u8, last: u8) -> u8
     ensures { λ r. ⌜ r ≡ earlyOf size kind place value last ⌝ }
 {
     if kind > 7 {

@@ -25,7 +25,7 @@ use Rattle.board.proofs.Ways.{off, set-beyond}
 use Rattle.run.specs.Fast.{passesOf}
 use Rattle.run.proofs.Turns.{Running}
 use Rattle.run.proofs.Kept.{Kept}
-use Rattle.run.proofs.Ways.{part-is, idle-turn}
+use Rattle.run.proofs.Ways.{part-is, Going, idle-turn}
 
 -- ---- the bytes of record i
 module _ (es : List ℕ) (i : ℕ) where
@@ -66,15 +66,14 @@ passing-plan size d marks due request e s l k h =
     let c = both (placeOf e is 0) (lastOf e is 0) (b .0) in
     rw (l, k, eqb-true (placeOf e) 0 (c .0), eqb-true (lastOf e) 0 (c .1), off due (b .1), off (retiOf d (valueOf e)) (a .1), lt-ltb 0 (size * 2) (omega (arith, s)))
 
-module _ (es old : List ℕ) (start : ℕ) (b₀ : Board) (n : ℕ) (out : List ℕ) (b : Board) (marks : List ℕ) (request : ℕ) (due : Bool) (i : ℕ)
-    (inv : Running es old start b₀ n out b i × Kept b marks request due) (h : i < n) (he : 4 * n ≤ length es) (ho : 4 * (start + n) ≤ length old)
-    (byte : getD es (4 * i + 2) 0 < 256) where
+module _ {es old : List ℕ} {start : ℕ} {b₀ : Board} {n : ℕ} {out : List ℕ} {b : Board} {marks : List ℕ} {request : ℕ} {due : Bool} {i : ℕ}
+    (g : Going es old start b₀ n out b marks request due i) where
   pub passing-turn : (d : Decoder) (out′ : List ℕ) → getD es (4 * i) 0 ≡ 1 → passesOf (b .decoder) due (getD es (4 * i + 1) 0) (getD es (4 * i + 2) 0) (getD es (4 * i + 3) 0) ≡ true
       → d ≡ nextOf (b .decoder) (getD es (4 * i + 2) 0) → out′ ≡ splice out (4 * (start + i)) (0 ∷ 0 ∷ getD es (4 * i + 2) 0 ∷ request ∷ [])
       → Running es old start b₀ n out′ (record { size = b .size; chips = b .chips; decoder = d }) (i + 1) × Kept (record { size = b .size; chips = b .chips; decoder = d }) marks request due
   passing-turn d out′ k t e o =
-      let plan = passing-plan (b .size) (b .decoder) marks due request (record-at es i) (size-some b (inv .1 .sound)) (record-long es i n h he)
+      let plan = passing-plan (b .size) (b .decoder) marks due request (record-at es i) (size-some b (g .kept .sound)) (record-long es i n (g .more) (g .events))
       (kind-at es i ∙ k) (rw (byte-at es i 1 (omega arith), byte-at es i 2 (omega arith), byte-at es i 3 (omega arith)) t) in
       let value = byte-at es i 2 (omega arith) in
-      idle-turn es old start b₀ n out b marks request due i inv h he ho byte (passed d marks (getD es (4 * i + 2) 0) request)
+      idle-turn g (passed d marks (getD es (4 * i + 2) 0) request)
       (rw (e, part-is es i, ← plan, value)) out′ refl refl o

@@ -2,6 +2,5 @@ pub mod Turns
 pub mod Kept
 pub mod Ways
 pub mod Whole
-pub mod Chips
 pub mod Fast
 pub mod Places

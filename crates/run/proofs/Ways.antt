@@ -71,9 +71,18 @@ byte-in es i h = rw (getD-take 4 (drop (4 * i) es) 2 0 (omega arith), getD-drop 
 abbrev four : Answer → List ℕ
 four a = a .code ∷ a .place ∷ a .value ∷ a .request ∷ []
 
-module _ (es old : List ℕ) (start : ℕ) (b₀ : Board) (n : ℕ) (out : List ℕ) (b : Board) (marks : List ℕ) (request : ℕ) (due : Bool) (i : ℕ)
-    (inv : Running es old start b₀ n out b i × Kept b marks request due) (h : i < n) (he : 4 * n ≤ length es) (ho : 4 * (start + n) ≤ length old)
-    (byte : getD es (4 * i + 2) 0 < 256) (w : Plan) (iw : w ≡ planOf (b .size) (b .decoder) marks due request (take (4 * i + 4 - 4 * i) (drop (4 * i) es))) where
+-- ---- before record i: it is there, and there is room for its answer
+pub record Going (es old : List ℕ) (start : ℕ) (b₀ : Board) (n : ℕ) (out : List ℕ) (b : Board) (marks : List ℕ) (request : ℕ) (due : Bool) (i : ℕ) : Type 0 where
+  pub running : Running es old start b₀ n out b i
+  pub kept : Kept b marks request due
+  pub more : i < n
+  pub events : 4 * n ≤ length es
+  pub room : 4 * (start + n) ≤ length old
+  pub byte : getD es (4 * i + 2) 0 < 256
+
+module _ {es old : List ℕ} {start : ℕ} {b₀ : Board} {n : ℕ} {out : List ℕ} {b : Board} {marks : List ℕ} {request : ℕ} {due : Bool} {i : ℕ}
+    (g : Going es old start b₀ n out b marks request due i) (w : Plan)
+    (iw : w ≡ planOf (b .size) (b .decoder) marks due request (take (4 * i + 4 - 4 * i) (drop (4 * i) es))) where
   abbrev event : List ℕ
   event = take 4 (drop (4 * i) es)
 
@@ -81,22 +90,22 @@ module _ (es old : List ℕ) (start : ℕ) (b₀ : Board) (n : ℕ) (out : List 
   asks = iw ∙ ap (planOf (b .size) (b .decoder) marks due request) (part-is es i)
 
   small : ltb (valueOf event) 256 ≡ true
-  small = byte-in es i byte
+  small = byte-in es i (g .byte)
 
   pub whole-turn : (s : Swept) (out′ : List ℕ) → w .whole ≡ true → s ≡ sweptOf (b .size) (b .chips) w → out′ ≡ splice out (4 * (start + i)) (four (s .answer))
       → Running es old start b₀ n out′ (wholly b w s .board) (i + 1) × Kept (wholly b w s .board) (s .marks) (s .answer .request) false
   unfolding bytesOf
   whole-turn s out′ t e o = (
-    turn es old start b₀ n (wholly b w s) out′ (inv .0) h he ho (whole-steps b marks request due (inv .1) event small w asks s t e) o,
-    whole-keeps b marks request due (inv .1) event small w asks s t e,
+    turn es old start b₀ n (wholly b w s) out′ (g .running) (g .more) (g .events) (g .room) (whole-steps b marks request due (g .kept) event small w asks s t e) o,
+    whole-keeps b marks request due (g .kept) event small w asks s t e,
   )
 
   pub idle-turn : (out′ : List ℕ) → w .whole ≡ false → not (w .one) ≡ true → out′ ≡ splice out (4 * (start + i)) (w .code ∷ w .place ∷ w .value ∷ w .request ∷ [])
       → Running es old start b₀ n out′ (idly b w .board) (i + 1) × Kept (idly b w .board) marks request due
   unfolding bytesOf
   idle-turn out′ t u o = (
-    turn es old start b₀ n (idly b w) out′ (inv .0) h he ho (idle-steps b marks request due (inv .1) event small w asks t (off (w .one) u)) o,
-    idle-keeps b marks request due (inv .1) event small w asks,
+    turn es old start b₀ n (idly b w) out′ (g .running) (g .more) (g .events) (g .room) (idle-steps b marks request due (g .kept) event small w asks t (off (w .one) u)) o,
+    idle-keeps b marks request due (g .kept) event small w asks,
   )
 
   pub single-turn : (r : Changed) (out′ : List ℕ) → w .whole ≡ false → not (w .one) ≡ false → r ≡ changedOf (getD (b .chips) (w .chip) blank) w
@@ -104,8 +113,8 @@ module _ (es old : List ℕ) (start : ℕ) (b₀ : Board) (n : ℕ) (out : List 
       → Running es old start b₀ n out′ (singly b w r .board) (i + 1) × Kept (singly b w r .board) (r .marks) (r .answer .request) (due || r .due)
   unfolding bytesOf
   single-turn r out′ t u e o = (
-    turn es old start b₀ n (singly b w r) out′ (inv .0) h he ho (single-steps b marks request due (inv .1) event small w asks r t e) o,
-    single-keeps b marks request due (inv .1) event small w asks r t (on (w .one) u) e,
+    turn es old start b₀ n (singly b w r) out′ (g .running) (g .more) (g .events) (g .room) (single-steps b marks request due (g .kept) event small w asks r t e) o,
+    single-keeps b marks request due (g .kept) event small w asks r t (on (w .one) u) e,
   )
 
 -- ---- the ways out of `run`

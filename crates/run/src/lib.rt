@@ -1,25 +1,17 @@
 // A run over many records. Document 01, "Records". The run looks the board over once and keeps its size, chips, decoder and marks in
-// locals: an event that concerns one chip moves that chip out and in, and a fetch that changes nothing touches no chip at all. As the
-// board stays sound, each kind of event settles no more than it can have unsettled.
+// locals: an event that concerns one chip moves that chip out and in, and a fetch that changes nothing touches no chip at all.
 use board::Board;
 use chain::Decoder;
 use chip::Chip;
-use port::Heard;
-use port::Port;
-use port::Word;
 ghost use mathlib.Core.Path.{_≡_};
-ghost use mathlib.Core.Bool.{true, false};
+ghost use mathlib.Core.Bool.{true};
 ghost use Prim.Native.Nat.{_+_, _*_, _/_, _%_, _≤_};
 ghost use lib.ListN.{length, set};
-ghost use Rattle.bits.specs.Bits.{if_then_else_};
 ghost use Rattle.buffers.specs.Splice.{splice};
 ghost use Rattle.chain.specs.Marks.{markOf};
 ghost use Rattle.board.specs.Board.{soundBoard};
-ghost use Rattle.board.specs.Halves.{lookOf, signalOf, stirsPort};
-ghost use Rattle.chip.specs.Chip.{side, write, read, strobe, outside, settle, obey};
-ghost use Rattle.chip.specs.Sound.{soundChip};
-ghost use Rattle.chip.specs.Act.{step};
-ghost use Rattle.run.specs.Fast.{passesOf, following, followed};
+ghost use Rattle.board.specs.Halves.{lookOf, signalOf};
+ghost use Rattle.run.specs.Fast.{passesOf};
 ghost use Rattle.run.specs.Run.{records, stepsOf, answersOf, refusalOf, ranOf, bufferOf};
 
 // The board after a run, its code, and the number of records.
@@ -54,126 +46,6 @@ fn passes(decoder: Decoder, due: bool, place: u8, value: u8, last: u8) -> bool
     ensures { λ r. ⌜ r ≡ passesOf decoder due place value last ⌝ }
 {
     (place == 0) & (last == 0) & !due & !decoder.reti(value)
-}
-
-// ---- one event at a sound chip, with no more settling than it can need
-
-// The CPU writes data: nothing is left to settle.
-fn write_at(c: Chip, on_b: bool, value: u8) -> Chip
-    ensures { λ r. ⌜ (soundChip c ≡ true → r ≡ step (side «on_b») (write value) c) ⌝ }
-{
-    chip::write_data(c, on_b, value)
-}
-
-// The CPU has read: nothing is left to settle.
-fn read_at(c: Chip, on_b: bool) -> Chip
-    ensures { λ r. ⌜ (soundChip c ≡ true → r ≡ step (side «on_b») read c) ⌝ }
-{
-    chip::read_data(c, on_b)
-}
-
-// The port's input register takes its lines, if it follows them.
-fn follow_lines(p: Port, follows: bool) -> Port
-    ensures { λ r. ⌜ r ≡ following follows p ⌝ }
-{
-    if !follows {
-        return p;
-    }
-    let mut q = p;
-    q.input = p.lines;
-    q
-}
-
-// Both registers take their lines, where they follow them.
-fn follow(c: Chip) -> Chip
-    ensures { λ r. ⌜ r ≡ followed c ⌝ }
-{
-    Chip {
-        a: follow_lines(c.a, chip::a_follows(c)),
-        b: follow_lines(c.b, chip::b_follows(c)),
-    }
-}
-
-// The level of a strobe that an event may move.
-fn level_at(moved: bool, level: bool, old: bool) -> bool
-    ensures { λ r. ⌜ r ≡ (if moved then level else old) ⌝ }
-{
-    if moved {
-        return level;
-    }
-    old
-}
-
-// A strobe level: registers may follow, and no match changes. The other strobe stays at its level, which is no edge.
-fn strobe_at(c: Chip, on_b: bool, level: bool) -> Chip
-    ensures { λ r. ⌜ (soundChip c ≡ true → r ≡ step (side «on_b») (strobe level) c) ⌝ }
-{
-    let a = c.a;
-    let b = c.b;
-    let two = a.mode == 2;
-    let x = level_at(on_b, a.strobe, level);
-    let y = level_at(on_b, level, b.strobe);
-    let p = port::strobe(a, two | (a.mode == 0) | (a.mode == 1), x);
-    let q = port::strobe(b, two | (b.mode == 0) | (b.mode == 1), y);
-    follow(Chip { a: p, b: q })
-}
-
-// Outside levels: the port that has the lines settles.
-fn lines_at(c: Chip, on_b: bool, value: u8) -> Chip
-    ensures { λ r. ⌜ (soundChip c ≡ true → r ≡ step (side «on_b») (outside value) c) ⌝ }
-{
-    let a = c.a;
-    let b = c.b;
-    if on_b {
-        let q = port::set_lines(b, value);
-        return Chip {
-            a: a,
-            b: port::settle(q, chip::b_follows(c), !(a.mode == 2)),
-        };
-    }
-    let q = port::set_lines(a, value);
-    Chip {
-        a: port::settle(q, chip::a_follows(c), true),
-        b: b,
-    }
-}
-
-// A control word to B: A is as it was.
-fn word_to_b(c: Chip, w: Word) -> Chip
-    ensures { λ r. ⌜ (soundChip c ≡ true → r ≡ settle (obey (side true) w c)) ⌝ }
-{
-    let a = c.a;
-    let two = a.mode == 2;
-    let q = port::obey(c.b, two, w);
-    let d = Chip { a: a, b: q };
-    Chip {
-        a: a,
-        b: port::settle(q, chip::b_follows(d), !two),
-    }
-}
-
-// A control word to A: B may be coupled anew, so both settle.
-fn word_to_a(c: Chip, w: Word) -> Chip
-    ensures { λ r. ⌜ r ≡ settle (obey (side false) w c) ⌝ }
-{
-    let a = c.a;
-    let b = c.b;
-    let q = port::obey(a, false, w);
-    let two = q.mode == 2;
-    let mut r = b;
-    r.ready = b.ready & ((a.mode == 2) == two);
-    let d = Chip { a: q, b: r };
-    Chip {
-        a: port::settle(q, chip::a_follows(d), true),
-        b: port::settle(r, chip::b_follows(d), !two),
-    }
-}
-
-// Whether a fetch would make the port live.
-fn stirs_port(p: Port) -> bool
-    ensures { λ r. ⌜ r ≡ stirsPort p ⌝ }
-{
-    p.asked & !(p.awaiting == 2) & !p.live
 }
 
 // The mark of the chip `d` that was `c` with the mark `old`.
@@ -237,7 +109,7 @@ fn run_records(
         let value = events[at + 2];
         let last = events[at + 3];
         i += 1;
-        // The short ways first: a fetch that changes the decoder alone, and the events of kinds 3 to 7 that nothing refuses.
+        // The short ways first: a fetch that changes the decoder alone, and an event of kinds 3 to 7 that no early refusal stops.
         if kind == 1 {
             if passes(decoder, due, place, value, last) {
                 decoder = decoder.next(value);
@@ -245,83 +117,19 @@ fn run_records(
                 continue;
             }
         }
-        let k = (place / 2 % 4) as usize;
-        let on_b = place % 2 == 1;
-        if (place / 2 < size) & (last == 0) {
-            if (kind == 6) & (value < 2) {
+        if kind >= 3 {
+            if board::early_refusal(size, kind, place, value, last) == 0 {
+                let k = (place / 2 % 4) as usize;
                 let c = chips[k];
-                let d = strobe_at(c, on_b, value == 1);
+                let r = shortcuts::act(c, place % 2 == 1, kind, value);
+                let d = r.chip;
                 chips[k] = d;
                 let old = marks[k];
                 let m = remark(c, d, old);
                 request = renewed(marks, k, m, request);
                 marks[k] = m;
-                buffers::put_record(&mut answers[to..], 0, place, value, request);
-                continue;
-            }
-            if kind == 7 {
-                let c = chips[k];
-                let d = lines_at(c, on_b, value);
-                chips[k] = d;
-                let old = marks[k];
-                let m = remark(c, d, old);
-                request = renewed(marks, k, m, request);
-                marks[k] = m;
-                buffers::put_record(&mut answers[to..], 0, place, value, request);
-                continue;
-            }
-            if (kind == 5) & (value == 0) {
-                let c = chips[k];
-                let p = chip::port_of(c, on_b);
-                let shown = port::shown(p);
-                let d = read_at(c, on_b);
-                chips[k] = d;
-                buffers::put_record(&mut answers[to..], 1, place, shown, request);
-                continue;
-            }
-            if kind == 4 {
-                let c = chips[k];
-                let d = write_at(c, on_b, value);
-                chips[k] = d;
-                buffers::put_record(&mut answers[to..], 0, place, value, request);
-                continue;
-            }
-            if kind == 3 {
-                if on_b {
-                    let c = chips[k];
-                    let p = c.b;
-                    let h = port::hear(p.awaiting, true, value);
-                    let Heard::Said(w) = h else {
-                        let code = port::code(h);
-                        buffers::put_record(&mut answers[to..], code, place, value, request);
-                        continue;
-                    };
-                    let d = word_to_b(c, w);
-                    chips[k] = d;
-                    let old = marks[k];
-                    let m = remark(c, d, old);
-                    request = renewed(marks, k, m, request);
-                    marks[k] = m;
-                    due = due | stirs_port(d.b);
-                    buffers::put_record(&mut answers[to..], 0, place, value, request);
-                    continue;
-                }
-                let c = chips[k];
-                let p = c.a;
-                let h = port::hear(p.awaiting, false, value);
-                let Heard::Said(w) = h else {
-                    let code = port::code(h);
-                    buffers::put_record(&mut answers[to..], code, place, value, request);
-                    continue;
-                };
-                let d = word_to_a(c, w);
-                chips[k] = d;
-                let old = marks[k];
-                let m = remark(c, d, old);
-                request = renewed(marks, k, m, request);
-                marks[k] = m;
-                due = due | stirs_port(d.a);
-                buffers::put_record(&mut answers[to..], 0, place, value, request);
+                due = due | board::stirred(d);
+                buffers::put_record(&mut answers[to..], r.code, place, r.value, request);
                 continue;
             }
         }

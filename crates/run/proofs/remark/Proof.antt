@@ -1,7 +1,7 @@
 -- `run::remark` meets its contract.
 -- Assumes nothing.
 use borrow.Author.Needs.{needs}
-use Rattle.run.proofs.Chips.{same-bits}
+use Rattle.run.proofs.Places.{same-bits}
 use Rattle.run.proofs.remark.Statement.{statement}
 use Rattle.run.proofs.remark.Tie as tie
 

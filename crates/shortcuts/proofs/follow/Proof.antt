@@ -1,9 +1,9 @@
--- `run::follow` meets its contract.
+-- `shortcuts::follow` meets its contract.
 -- Assumes nothing.
 use borrow.Author.Needs.{needs}
-use Rattle.run.proofs.Chips.{both-follow}
-use Rattle.run.proofs.follow.Statement.{statement}
-use Rattle.run.proofs.follow.Tie as tie
+use Rattle.shortcuts.proofs.Sound.{both-follow}
+use Rattle.shortcuts.proofs.follow.Statement.{statement}
+use Rattle.shortcuts.proofs.follow.Tie as tie
 
 pub follow-spec : {M : Type 1} → statement M
 follow-spec =

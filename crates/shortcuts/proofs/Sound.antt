@@ -1,27 +1,29 @@
 -- One event at a sound chip, with no more settling than it can need, is the chip's step.
 -- Assumes nothing.
 use mathlib.Core.Path.{_≡_, refl, sym, ap, ap₂, _∙_}
-use mathlib.Core.Bool.{Bool, true, false, _&&_, _||_, not, Bool·beq}
+use mathlib.Core.Bool.{Bool, true, false, _&&_, _||_, not, Bool·beq, false≢true, true≢false}
 use Prim.Native.Nat.{ℕ}
 use Rattle.bits.specs.Bits.{if_then_else_, _is_}
 use Rattle.bits.proofs.Logic.{both, beq-is}
 use Rattle.port.specs.Fields.{input-at, waiting-at, matched-at, ready-at, strobe-at as port-strobe-at}
-use Rattle.port.specs.Words.{obeyed}
-use Rattle.port.specs.Rules.{strobed, linesNow, matchNow, settled}
+use Rattle.port.specs.Words.{heardOf, obeyed}
+use Rattle.port.specs.Rules.{strobed, linesNow, matchNow, settled, shownOf}
 use Rattle.port.specs.Sound.{restsOf}
 use Rattle.port.specs.declared.Port.{Port}
 use Rattle.port.specs.declared.Word.{Word}
+use Rattle.port.specs.declared.Heard.{Heard}
+use Rattle.port.specs.declared.Heard.the-variants.{Said}
 use Rattle.port.specs.declared.Word.the-variants.{Vector, Mode, Interrupt, Enable, Select, Mask}
 use Rattle.port.proofs.Rest.{rests-settled}
 use Rattle.chip.specs.declared.Chip.{Chip}
-use Rattle.chip.specs.Chip.{Side, A, B, side, twoWay, off, follows, acts, write, read, strobe, outside, settle, obey, changed}
+use Rattle.chip.specs.declared.Acted.{Acted}
+use Rattle.chip.specs.Chip.{Side, A, B, side, port, twoWay, off, follows, acts, write, read, strobe, outside, settle, obey, changed}
 use Rattle.chip.specs.Sound.{soundChip}
-use Rattle.chip.specs.Act.{step}
+use Rattle.chip.specs.Act.{eventOf, step, actOf, controlledOf}
 use Rattle.chip.proofs.Keep.{apart, rest-same}
-use Rattle.chip.proofs.Ways.{made}
-use Rattle.chain.specs.Marks.{markOf}
-use Rattle.board.proofs.Ways.{off as turned-off, on as turned-on}
-use Rattle.run.specs.Fast.{following, followed}
+use Rattle.chip.proofs.Ways.{made, acted}
+use Rattle.chip.proofs.Ways as ways
+use Rattle.shortcuts.specs.Follow.{following, followed}
 
 -- ---- a port whose match memory is right: settling only lets the input register follow
 matched-now : (f w : Bool) (p : Port) → restsOf f w p ≡ true → p .matched ≡ (matchNow p && w)
@@ -43,25 +45,27 @@ settled-input f w p m =
 
 pub follow-none : (f : Bool) (p : Port) → not f ≡ true → p ≡ following f p
 unfolding if_then_else_
-follow-none f p e = rw (turned-off f e)
+follow-none true p e = absurd (false≢true e)
+follow-none false p e = refl
 
 pub follow-taken : (f : Bool) (p : Port) → not f ≡ false → input-at (p .lines) p ≡ following f p
 unfolding if_then_else_
-follow-taken f p e = rw (turned-on f e)
+follow-taken true p e = refl
+follow-taken false p e = absurd (true≢false e)
 
 pub both-follow : (c : Chip) (f g : Bool) (x y : Port) → f ≡ follows A c → g ≡ follows B c → x ≡ following f (c .a) → y ≡ following g (c .b) → made x y ≡ followed c
 both-follow c f g x y i j k l = rw (k, l, i, j)
 
 -- ---- data: nothing is left to settle
-pub write-at : (c : Chip) (s : Bool) (v : ℕ) (d : Chip) → d ≡ changed (side s) (write v) c → soundChip c ≡ true → d ≡ step (side s) (write v) c
-unfolding step matchNow
-write-at c true v d i h = i ∙ sym (rest-same (changed B (write v) c) (apart c h .1))
-write-at c false v d i h = i ∙ sym (rest-same (changed A (write v) c) (apart c h .1))
+write-rests : (s : Side) (v : ℕ) (c : Chip) → soundChip c ≡ true → changed s (write v) c ≡ settle (changed s (write v) c)
+unfolding matchNow
+write-rests A v c h = sym (rest-same (changed A (write v) c) (apart c h .1))
+write-rests B v c h = sym (rest-same (changed B (write v) c) (apart c h .1))
 
-pub read-at : (c : Chip) (s : Bool) (d : Chip) → d ≡ changed (side s) read c → soundChip c ≡ true → d ≡ step (side s) read c
-unfolding step matchNow
-read-at c true d i h = i ∙ sym (rest-same (changed B read c) (apart c h .1))
-read-at c false d i h = i ∙ sym (rest-same (changed A read c) (apart c h .1))
+read-rests : (s : Side) (c : Chip) → soundChip c ≡ true → changed s read c ≡ settle (changed s read c)
+unfolding matchNow
+read-rests A c h = sym (rest-same (changed A read c) (apart c h .1))
+read-rests B c h = sym (rest-same (changed B read c) (apart c h .1))
 
 module _ (c : Chip) (s : Bool) where
   -- ---- a strobe: no match changes
@@ -134,34 +138,39 @@ a-rests c w h =
     ap (λ (t : Bool). settled (((c .a .mode is 1) && not (c .a .strobe)) || (twoWay c && not t)) true (c .a)) (obeyed-strobe (twoWay c) (c .b) w)
     ∙ rests-settled (follows A c) true (c .a) (apart c h .1 .0)
 
-pub word-b : (c : Chip) (w : Word) (f : Bool) (p q : Port) → p ≡ obeyed (c .a .mode is 2) (c .b) w → f ≡ follows B (made (c .a) p) → q ≡ settled f (not (c .a .mode is 2)) p
-    → soundChip c ≡ true → made (c .a) q ≡ settle (obey B w c)
-word-b c w f p q i j k h = rw (k, j, i) (ap (λ (x : Port). made x (settle (obey B w c) .b)) (sym (a-rests c w h)))
+pub word-b : (c : Chip) (s : Bool) (w : Word) (f : Bool) (p q : Port) → s ≡ true → p ≡ obeyed (c .a .mode is 2) (c .b) w → f ≡ follows B (made (c .a) p)
+    → q ≡ settled f (not (c .a .mode is 2)) p → soundChip c ≡ true → made (c .a) q ≡ settle (obey (side s) w c)
+word-b c s w f p q e i j k h = rw (e, k, j, i) (ap (λ (x : Port). made x (settle (obey B w c) .b)) (sym (a-rests c w h)))
 
-pub word-a : (c : Chip) (w : Word) (f g : Bool) (p x y : Port) → p ≡ obeyed false (c .a) w
+pub word-a : (c : Chip) (s : Bool) (w : Word) (f g : Bool) (p x y : Port) → s ≡ false → p ≡ obeyed false (c .a) w
     → f ≡ follows A (made p (ready-at (c .b .ready && Bool·beq (c .a .mode is 2) (p .mode is 2)) (c .b))) → x ≡ settled f true p
     → g ≡ follows B (made p (ready-at (c .b .ready && Bool·beq (c .a .mode is 2) (p .mode is 2)) (c .b)))
-    → y ≡ settled g (not (p .mode is 2)) (ready-at (c .b .ready && Bool·beq (c .a .mode is 2) (p .mode is 2)) (c .b)) → made x y ≡ settle (obey A w c)
-word-a c w f g p x y i j k l m = rw (k, j, m, l, i)
+    → y ≡ settled g (not (p .mode is 2)) (ready-at (c .b .ready && Bool·beq (c .a .mode is 2) (p .mode is 2)) (c .b)) → made x y ≡ settle (obey (side s) w c)
+word-a c s w f g p x y e i j k l m = rw (e, k, j, m, l, i)
 
--- ---- the mark, where no bit that it is made of has changed
-pub same-bits : (c d : Chip) (old : ℕ)
-    → ((Bool·beq (c .a .service) (d .a .service) && Bool·beq (c .a .waiting) (d .a .waiting) && Bool·beq (c .a .live) (d .a .live))
-    && (Bool·beq (c .b .service) (d .b .service) && Bool·beq (c .b .waiting) (d .b .waiting) && Bool·beq (c .b .live) (d .b .live))) ≡ true
-    → old ≡ markOf c → old ≡ markOf d
-unfolding markOf
-same-bits c d old t e =
-    let x = both (Bool·beq (c .a .service) (d .a .service) && Bool·beq (c .a .waiting) (d .a .waiting) && Bool·beq (c .a .live) (d .a .live))
-    (Bool·beq (c .b .service) (d .b .service) && Bool·beq (c .b .waiting) (d .b .waiting) && Bool·beq (c .b .live) (d .b .live)) t in
-    let y = both (Bool·beq (c .a .service) (d .a .service) && Bool·beq (c .a .waiting) (d .a .waiting)) (Bool·beq (c .a .live) (d .a .live)) (x .0) in
-    let z = both (Bool·beq (c .a .service) (d .a .service)) (Bool·beq (c .a .waiting) (d .a .waiting)) (y .0) in
-    let u = both (Bool·beq (c .b .service) (d .b .service) && Bool·beq (c .b .waiting) (d .b .waiting)) (Bool·beq (c .b .live) (d .b .live)) (x .1) in
-    let v = both (Bool·beq (c .b .service) (d .b .service)) (Bool·beq (c .b .waiting) (d .b .waiting)) (u .0) in
-    rw (
-      ← beq-is (c .a .service) (d .a .service) (z .0),
-      ← beq-is (c .a .waiting) (d .a .waiting) (z .1),
-      ← beq-is (c .a .live) (d .a .live) (y .1),
-      ← beq-is (c .b .service) (d .b .service) (v .0),
-      ← beq-is (c .b .waiting) (d .b .waiting) (v .1),
-      ← beq-is (c .b .live) (d .b .live) (u .1),
-    ) e
+-- ---- one event, by its kind
+pub taken : (s : Bool) (v : ℕ) (c d : Chip) (p : Port) (h : Heard) (w : Word) → p ≡ port (side s) c → h ≡ heardOf (p .awaiting) s v → h ≡ Said w
+    → (soundChip c ≡ true → d ≡ settle (obey (side s) w c)) → soundChip c ≡ true → acted d 0 v ≡ controlledOf (side s) v c
+taken s v c d p h w i e a f g = ways.went-on s v c (obey (side s) w c) d p h w i e a refl (f g)
+
+pub act-control : (s : Side) (k v : ℕ) (c : Chip) (r : Acted) → (k is 3) ≡ true → (soundChip c ≡ true → r ≡ controlledOf s v c) → soundChip c ≡ true
+    → r ≡ actOf s (eventOf k v) v c
+act-control s k v c r e f g = ways.act-control s k v c r e (f g)
+
+pub act-write : (s : Side) (k v : ℕ) (c d : Chip) → (k is 3) ≡ false → (k is 4) ≡ true → d ≡ changed s (write v) c → soundChip c ≡ true
+    → acted d 0 v ≡ actOf s (eventOf k v) v c
+act-write s k v c d e f i g = ways.act-write s k v c (changed s (write v) c) d e f refl (i ∙ write-rests s v c g)
+
+pub act-read : (s : Side) (k v n : ℕ) (c d : Chip) (p : Port) → (k is 3) ≡ false → (k is 4) ≡ false → (k is 5) ≡ true → p ≡ port s c
+    → d ≡ changed s read c → n ≡ shownOf p → soundChip c ≡ true → acted d 1 n ≡ actOf s (eventOf k v) v c
+act-read s k v n c d p e f h j i l g = ways.act-read s k v n c (changed s read c) d p e f h j refl (i ∙ read-rests s c g) l
+
+pub act-strobe : (s : Side) (k v : ℕ) (c d : Chip) → (k is 3) ≡ false → (k is 4) ≡ false → (k is 5) ≡ false → (k is 6) ≡ true
+    → (soundChip c ≡ true → d ≡ step s (strobe (v is 1)) c) → soundChip c ≡ true → acted d 0 v ≡ actOf s (eventOf k v) v c
+unfolding step
+act-strobe s k v c d e f h j i g = ways.act-strobe s k v c (changed s (strobe (v is 1)) c) d e f h j refl (i g)
+
+pub act-outside : (s : Side) (k v : ℕ) (c d : Chip) → (k is 3) ≡ false → (k is 4) ≡ false → (k is 5) ≡ false → (k is 6) ≡ false
+    → (soundChip c ≡ true → d ≡ step s (outside v) c) → soundChip c ≡ true → acted d 0 v ≡ actOf s (eventOf k v) v c
+unfolding step
+act-outside s k v c d e f h j i g = ways.act-outside s k v c (changed s (outside v) c) d e f h j refl (i g)

@@ -1,9 +1,9 @@
--- `run::lines_at` meets its contract.
+-- `shortcuts::lines_at` meets its contract.
 -- Assumes nothing.
 use borrow.Author.Needs.{needs}
-use Rattle.run.proofs.Chips.{lines-at-b, lines-at-a}
-use Rattle.run.proofs.lines_at.Statement.{statement}
-use Rattle.run.proofs.lines_at.Tie as tie
+use Rattle.shortcuts.proofs.Sound.{lines-at-b, lines-at-a}
+use Rattle.shortcuts.proofs.lines_at.Statement.{statement}
+use Rattle.shortcuts.proofs.lines_at.Tie as tie
 
 pub lines-at-spec : {M : Type 1} → statement M
 lines-at-spec =

@@ -1,9 +1,9 @@
--- `run::strobe_at` meets its contract.
+-- `shortcuts::strobe_at` meets its contract.
 -- Assumes nothing.
 use borrow.Author.Needs.{needs}
-use Rattle.run.proofs.Chips.{strobe-at}
-use Rattle.run.proofs.strobe_at.Statement.{statement}
-use Rattle.run.proofs.strobe_at.Tie as tie
+use Rattle.shortcuts.proofs.Sound.{strobe-at}
+use Rattle.shortcuts.proofs.strobe_at.Statement.{statement}
+use Rattle.shortcuts.proofs.strobe_at.Tie as tie
 
 pub strobe-at-spec : {M : Type 1} → statement M
 strobe-at-spec =

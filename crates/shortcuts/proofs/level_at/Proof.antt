@@ -1,8 +1,8 @@
--- `run::level_at` meets its contract.
+-- `shortcuts::level_at` meets its contract.
 -- Assumes nothing.
 use Rattle.bits.proofs.Tests.{take, skip}
-use Rattle.run.proofs.level_at.Statement.{statement}
-use Rattle.run.proofs.level_at.Tie as tie
+use Rattle.shortcuts.proofs.level_at.Statement.{statement}
+use Rattle.shortcuts.proofs.level_at.Tie as tie
 
 pub level-at-spec : {M : Type 1} → statement M
 level-at-spec =

@@ -1,0 +1,24 @@
+-- `shortcuts::act` meets its contract.
+-- Assumes nothing.
+use borrow.Author.Needs.{needs}
+use Rattle.bits.proofs.Tests.{tests}
+use Rattle.shortcuts.proofs.Sound.{act-control, act-write, act-read, act-strobe, act-outside}
+use Rattle.shortcuts.proofs.act.Statement.{statement}
+use Rattle.shortcuts.proofs.act.Tie as tie
+
+pub act-spec : {M : Type 1} → statement M
+act-spec =
+    tie.close
+    (tie.spec
+    (λ c κs. search needs)
+    (λ c h. search (tests, act-control) depth 20)
+    (λ c κs. search needs)
+    (λ c h. search (tests, act-write) depth 20)
+    (λ c κs. search needs)
+    (λ c κs. search needs)
+    (λ c κs. search needs)
+    (λ c h. search (tests, act-read) depth 20)
+    (λ c κs. search needs)
+    (λ c h. search (tests, act-strobe) depth 20)
+    (λ c κs. search needs)
+    (λ c h. search (tests, act-outside) depth 20))
