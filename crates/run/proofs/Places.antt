@@ -2,24 +2,25 @@
 -- `due` follow.
 -- Assumes nothing.
 use mathlib.Core.Path.{_≡_, refl, sym, ap, _∙_}
-use mathlib.Core.Bool.{Bool, true, _&&_, _||_, Bool·beq}
+use mathlib.Core.Bool.{Bool, true, _||_}
 use mathlib.Core.List.{List, [], _∷_}
 use Prim.Native.Nat.{ℕ, zero, suc, _+_, _-_, _*_, _/_, _%_, _≤_, _<_}
 use native.Mathlib.Nat.{not-suc-le-zero, le-of-suc-le-suc}
 use native.Mathlib.Omega.{arith}
 use lib.ListN.{length, take, drop, getD, set, length-take}
-use lib.Seq.{getD-take}
+use lib.Seq.{getD-take, getD-set-same}
 use borrow.Author.Tests.{eq-eqb, ne-eqb}
 use Rattle.bits.specs.Bits.{if_then_else_, _is_}
-use Rattle.bits.proofs.Logic.{both, beq-is}
+use Rattle.bits.proofs.Logic.{both}
 use Rattle.bits.proofs.Tests.{if-on}
 use Rattle.chip.specs.declared.Chip.{Chip}
 use Rattle.chip.specs.declared.Acted.{Acted}
+use Rattle.chip.specs.Chip.{side}
 use Rattle.chip.specs.Sound.{soundChip}
 use Rattle.chip.specs.Act.{eventOf, actOf}
 use Rattle.chain.specs.declared.Decoder.{Decoder}
 use Rattle.chain.specs.Chain.{sideOf}
-use Rattle.chain.specs.Marks.{markOf, marksOf}
+use Rattle.chain.specs.Marks.{markOf}
 use Rattle.buffers.specs.Splice.{splice}
 use Rattle.board.specs.declared.Board.{Board}
 use Rattle.board.specs.declared.Plan.{Plan}
@@ -46,35 +47,6 @@ chip-sound b k s row h =
     rw (← getD-take (b .size) (b .chips) k blank h)
     (sound-at (there b) k (parts b s .1) (omega (arith, h, length-take (b .size) (b .chips), row, size-fits b s row)))
 
--- the mark at an index
-mark-at : (n : ℕ) (cs : List Chip) (k : ℕ) → k < n → k < length cs → getD (marksOf n cs) k 0 ≡ markOf (getD cs k blank)
-mark-at n [] k h l = absurd (not-suc-le-zero l)
-mark-at zero (c ∷ cs) k h l = absurd (not-suc-le-zero h)
-mark-at (suc n) (c ∷ cs) zero h l = refl
-mark-at (suc n) (c ∷ cs) (suc k) h l = mark-at n cs k (le-of-suc-le-suc h) (le-of-suc-le-suc l)
-
--- ---- the mark, where no bit that it is made of has changed
-pub same-bits : (c d : Chip) (old : ℕ)
-    → ((Bool·beq (c .a .service) (d .a .service) && Bool·beq (c .a .waiting) (d .a .waiting) && Bool·beq (c .a .live) (d .a .live))
-    && (Bool·beq (c .b .service) (d .b .service) && Bool·beq (c .b .waiting) (d .b .waiting) && Bool·beq (c .b .live) (d .b .live))) ≡ true
-    → old ≡ markOf c → old ≡ markOf d
-unfolding markOf
-same-bits c d old t e =
-    let x = both (Bool·beq (c .a .service) (d .a .service) && Bool·beq (c .a .waiting) (d .a .waiting) && Bool·beq (c .a .live) (d .a .live))
-    (Bool·beq (c .b .service) (d .b .service) && Bool·beq (c .b .waiting) (d .b .waiting) && Bool·beq (c .b .live) (d .b .live)) t in
-    let y = both (Bool·beq (c .a .service) (d .a .service) && Bool·beq (c .a .waiting) (d .a .waiting)) (Bool·beq (c .a .live) (d .a .live)) (x .0) in
-    let z = both (Bool·beq (c .a .service) (d .a .service)) (Bool·beq (c .a .waiting) (d .a .waiting)) (y .0) in
-    let u = both (Bool·beq (c .b .service) (d .b .service) && Bool·beq (c .b .waiting) (d .b .waiting)) (Bool·beq (c .b .live) (d .b .live)) (x .1) in
-    let v = both (Bool·beq (c .b .service) (d .b .service)) (Bool·beq (c .b .waiting) (d .b .waiting)) (u .0) in
-    rw (
-      ← beq-is (c .a .service) (d .a .service) (z .0),
-      ← beq-is (c .a .waiting) (d .a .waiting) (z .1),
-      ← beq-is (c .a .live) (d .a .live) (y .1),
-      ← beq-is (c .b .service) (d .b .service) (v .0),
-      ← beq-is (c .b .waiting) (d .b .waiting) (v .1),
-      ← beq-is (c .b .live) (d .b .live) (u .1),
-    ) e
-
 -- ---- an event of kinds 3 to 7 that no early refusal stops
 placed-plan : (size : ℕ) (d : Decoder) (marks : List ℕ) (due : Bool) (request : ℕ) (e : List ℕ) → length e ≡ 4 → 3 ≤ kindOf e → earlyAt size e ≡ 0
     → single d marks (kindOf e) 0 (placeOf e) (valueOf e) request ≡ planOf size d marks due request e
@@ -82,58 +54,92 @@ unfolding planOf acceptedPlan if_then_else_
 placed-plan size d marks due request e l lo z =
     rw (l, z, ne-eqb (kindOf e) 1 (λ n. omega (arith, n, lo)), ne-eqb (kindOf e) 0 (λ n. omega (arith, n, lo)), ne-eqb (kindOf e) 2 (λ n. omega (arith, n, lo)))
 
-module _ {es old : List ℕ} {start : ℕ} {b₀ : Board} {n : ℕ} {out : List ℕ} {b : Board} {marks : List ℕ} {request : ℕ} {due : Bool} {i : ℕ}
-    (g : Going es old start b₀ n out b marks request due i) where
-  abbrev kind : ℕ
+module _ (es : List ℕ) (i : ℕ) where
+  abbrev pub kind : ℕ
   kind = getD es (4 * i) 0
 
-  abbrev place : ℕ
+  abbrev pub place : ℕ
   place = getD es (4 * i + 1) 0
 
-  abbrev value : ℕ
+  abbrev pub value : ℕ
   value = getD es (4 * i + 2) 0
 
-  abbrev k : ℕ
+  abbrev pub last : ℕ
+  last = getD es (4 * i + 3) 0
+
+  abbrev pub k : ℕ
   k = place / 2 % most
 
-  abbrev c : Chip
-  c = getD (b .chips) k blank
+-- ---- what the ways of the five kinds give: the row of chips with the event's chip changed, the answer's code and its value
+pub record Acts (es : List ℕ) (i : ℕ) (old new : List Chip) (code shown : ℕ) : Type 0 where
+  pub acted : Acted
+  pub event : soundChip (getD old (k es i) blank) ≡ true → acted ≡ actOf (sideOf (place es i)) (eventOf (kind es i) (value es i)) (value es i) (getD old (k es i) blank)
+  pub row : new ≡ set old (k es i) (acted .chip)
+  pub coded : code ≡ acted .code
+  pub told : shown ≡ acted .value
 
-  module _ (lo : 3 ≤ kind) (z : earlyOf (b .size) kind place value (getD es (4 * i + 3) 0) ≡ 0) where
-    fits : k < b .size
-    fits =
-        omega (
-          arith,
-          place-there (b .size) kind place value (getD es (4 * i + 3) 0) (eq-eqb (earlyOf (b .size) kind place value (getD es (4 * i + 3) 0)) 0 z),
-          size-fits b (g .kept .sound) (g .kept .row),
-        )
+module _ {es : List ℕ} {i : ℕ} {old new : List Chip} {code shown : ℕ} (a : Acted) where
+  pub by-kind : (n : ℕ) → kind es i ≡ n → (soundChip (getD old (k es i) blank) ≡ true → a ≡ actOf (sideOf (place es i)) (eventOf n (value es i)) (value es i) (getD old (k es i) blank))
+      → new ≡ set old (k es i) (a .chip) → code ≡ a .code → shown ≡ a .value → Acts es i old new code shown
+  by-kind n t f r x y = record { acted = a; event = λ s. rw t (f s); row = r; coded = x; told = y }
 
-    mark-here : getD marks k 0 ≡ markOf c
-    mark-here = ap (λ (ms : List ℕ). getD ms k 0) (g .kept .marked) ∙ mark-at (b .size) (b .chips) k fits (omega (arith, fits, g .kept .row, size-fits b (g .kept .sound) (g .kept .row)))
+  pub by-side : (s : Bool) → (place es i % 2 is 1) ≡ s → kind es i ≡ 3 → (soundChip (getD old (k es i) blank) ≡ true → a ≡ actOf (side s) (eventOf 3 (value es i)) (value es i) (getD old (k es i) blank))
+      → new ≡ set old (k es i) (a .chip) → code ≡ a .code → shown ≡ a .value → Acts es i old new code shown
+  by-side s e t f = by-kind 3 t (λ h. rw e (f h))
 
-    abbrev w : Plan
-    w = single (b .decoder) marks kind 0 place value request
+  -- none of the other four kinds: outside levels
+  pub by-rest : (kind es i ≡ 3 → ⊥) → (kind es i ≡ 4 → ⊥) → (kind es i ≡ 5 → ⊥) → (kind es i ≡ 6 → ⊥)
+      → (soundChip (getD old (k es i) blank) ≡ true → a ≡ actOf (sideOf (place es i)) (eventOf 7 (value es i)) (value es i) (getD old (k es i) blank))
+      → new ≡ set old (k es i) (a .chip) → code ≡ a .code → shown ≡ a .value → Acts es i old new code shown
+  unfolding eventOf if_then_else_
+  by-rest p q r s f x y z = record {
+    acted = a;
+    event = λ h. rw (ne-eqb (kind es i) 3 p, ne-eqb (kind es i) 4 q, ne-eqb (kind es i) 5 r, ne-eqb (kind es i) 6 s) (f h);
+    row = x;
+    coded = y;
+    told = z;
+  }
 
-    planned : w ≡ planOf (b .size) (b .decoder) marks due request (take (4 * i + 4 - 4 * i) (drop (4 * i) es))
-    planned =
-        let j = kind-at es i in
-        let p = byte-at es i 1 (omega arith) in
-        let u = byte-at es i 2 (omega arith) in
-        let l = byte-at es i 3 (omega arith) in
-        rw (part-is es i, ← placed-plan (b .size) (b .decoder) marks due request (record-at es i) (record-long es i n (g .more) (g .events)) (rw j lo) (rw (j, p, u, l) z), j, p, u)
+module _ {es old : List ℕ} {start : ℕ} {b₀ : Board} {n : ℕ} {out : List ℕ} {b : Board} {marks : List ℕ} {request : ℕ} {due : Bool} {i : ℕ}
+    (g : Going es old start b₀ n out b marks request due i) (lo : 3 ≤ kind es i) (z : earlyOf (b .size) (kind es i) (place es i) (value es i) (last es i) ≡ 0) where
+  fits : k es i < b .size
+  fits =
+      omega (
+        arith,
+        place-there (b .size) (kind es i) (place es i) (value es i) (last es i) (eq-eqb (earlyOf (b .size) (kind es i) (place es i) (value es i) (last es i)) 0 z),
+        size-fits b (g .kept .sound) (g .kept .row),
+      )
 
-    changes : (a : Acted) → a ≡ actOf (sideOf place) (eventOf kind value) value c → withActed w a ≡ changedOf c w
-    unfolding changedOf
-    changes a e = ap (withActed w) (touch-act c w a (λ m. omega (arith, m, lo)) (λ m. omega (arith, m, lo)) e) ∙ sym (if-on true (withActed w _) _ refl)
+  in-row : k es i < length (b .chips)
+  in-row = omega (arith, fits, g .kept .row, size-fits b (g .kept .sound) (g .kept .row))
 
-    pub act-turn : (a : Acted) (m q : ℕ) (y : Bool) (out′ : List ℕ) → (soundChip c ≡ true → a ≡ actOf (sideOf place) (eventOf kind value) value c)
-        → (getD marks k 0 ≡ markOf c → m ≡ markOf (a .chip)) → (request ≡ signalOf marks → q ≡ signalOf (set marks k m)) → y ≡ stirs (a .chip)
-        → out′ ≡ splice out (4 * (start + i)) (a .code ∷ place ∷ a .value ∷ q ∷ [])
-        → Running es old start b₀ n out′ (record { size = b .size; chips = set (b .chips) k (a .chip); decoder = b .decoder }) (i + 1)
-        × Kept (record { size = b .size; chips = set (b .chips) k (a .chip); decoder = b .decoder }) (set marks k m) q (due || y)
-    act-turn a m q y out′ f j r l o =
-        let u = j mark-here in
-        let s = r (g .kept .asked) ∙ ap (λ (x : ℕ). signalOf (set marks k x)) u in
-        rw (l, s, u)
-        (single-turn g w planned (withActed w a) out′ refl refl
-        (changes a (f (chip-sound b k (g .kept .sound) (g .kept .row) fits))) (o ∙ ap (λ (x : ℕ). splice out (4 * (start + i)) (a .code ∷ place ∷ a .value ∷ x ∷ [])) s))
+  abbrev w : Plan
+  w = single (b .decoder) marks (kind es i) 0 (place es i) (value es i) request
+
+  planned : w ≡ planOf (b .size) (b .decoder) marks due request (take (4 * i + 4 - 4 * i) (drop (4 * i) es))
+  planned =
+      let j = kind-at es i in
+      let p = byte-at es i 1 (omega arith) in
+      let u = byte-at es i 2 (omega arith) in
+      let l = byte-at es i 3 (omega arith) in
+      rw (part-is es i, ← placed-plan (b .size) (b .decoder) marks due request (record-at es i) (record-long es i n (g .more) (g .events)) (rw j lo) (rw (j, p, u, l) z), j, p, u)
+
+  changes : (a : Acted) → a ≡ actOf (sideOf (place es i)) (eventOf (kind es i) (value es i)) (value es i) (getD (b .chips) (k es i) blank)
+      → withActed w a ≡ changedOf (getD (b .chips) (k es i) blank) w
+  unfolding changedOf
+  changes a e =
+      ap (withActed w) (touch-act (getD (b .chips) (k es i) blank) w a (λ m. omega (arith, m, lo)) (λ m. omega (arith, m, lo)) e) ∙ sym (if-on true (withActed w _) _ refl)
+
+  pub act-turn : {new : List Chip} {code shown : ℕ} (a : Acts es i (b .chips) new code shown) (m q : ℕ) (y : Bool) (out′ : List ℕ) → m ≡ markOf (getD new (k es i) blank)
+      → (request ≡ signalOf marks → q ≡ signalOf (set marks (k es i) m)) → y ≡ stirs (getD new (k es i) blank)
+      → out′ ≡ splice out (4 * (start + i)) (code ∷ place es i ∷ shown ∷ q ∷ [])
+      → Running es old start b₀ n out′ (record { size = b .size; chips = new; decoder = b .decoder }) (i + 1)
+      × Kept (record { size = b .size; chips = new; decoder = b .decoder }) (set marks (k es i) m) q (due || y)
+  act-turn {new} {code} {shown} a m q y out′ u r l o =
+      let d = a .acted in
+      let e = ap (λ (cs : List Chip). getD cs (k es i) blank) (a .row) ∙ getD-set-same (b .chips) (k es i) (d .chip) blank in-row in
+      let v = u ∙ ap markOf e in
+      let s = r (g .kept .asked) ∙ ap (λ (x : ℕ). signalOf (set marks (k es i) x)) v in
+      rw (l, e, s, v, a .row)
+      (single-turn g w planned (withActed w d) out′ refl refl (changes d (a .event (chip-sound b (k es i) (g .kept .sound) (g .kept .row) fits)))
+      (rw (← a .coded, ← a .told, ← s) o))

@@ -2,13 +2,11 @@
 // locals: an event that concerns one chip moves that chip out and in, and a fetch that changes nothing touches no chip at all.
 use board::Board;
 use chain::Decoder;
-use chip::Chip;
 ghost use mathlib.Core.Path.{_≡_};
 ghost use mathlib.Core.Bool.{true};
 ghost use Prim.Native.Nat.{_+_, _*_, _/_, _%_, _≤_};
 ghost use lib.ListN.{length, set};
 ghost use Rattle.buffers.specs.Splice.{splice};
-ghost use Rattle.chain.specs.Marks.{markOf};
 ghost use Rattle.board.specs.Board.{soundBoard};
 ghost use Rattle.board.specs.Halves.{lookOf, signalOf};
 ghost use Rattle.run.specs.Fast.{passesOf};
@@ -46,22 +44,6 @@ fn passes(decoder: Decoder, due: bool, place: u8, value: u8, last: u8) -> bool
     ensures { λ r. ⌜ r ≡ passesOf decoder due place value last ⌝ }
 {
     (place == 0) & (last == 0) & !due & !decoder.reti(value)
-}
-
-// The mark of the chip `d` that was `c` with the mark `old`.
-fn remark(c: Chip, d: Chip, old: u8) -> u8
-    ensures { λ r. ⌜ (old ≡ markOf c → r ≡ markOf d) ⌝ }
-{
-    let a = c.a;
-    let b = c.b;
-    let x = d.a;
-    let y = d.b;
-    let first = (a.service == x.service) & (a.waiting == x.waiting) & (a.live == x.live);
-    let second = (b.service == y.service) & (b.waiting == y.waiting) & (b.live == y.live);
-    if first & second {
-        return old;
-    }
-    chain::mark(d)
 }
 
 // The request after the chip `k` has the mark `mark`.
@@ -120,16 +102,66 @@ fn run_records(
         if kind >= 3 {
             if board::early_refusal(size, kind, place, value, last) == 0 {
                 let k = (place / 2 % 4) as usize;
-                let c = chips[k];
-                let r = shortcuts::act(c, place % 2 == 1, kind, value);
-                let d = r.chip;
-                chips[k] = d;
-                let old = marks[k];
-                let m = remark(c, d, old);
+                let on_b = place % 2 == 1;
+                let mut code: u8 = 0;
+                let mut shown = value;
+                match kind {
+                    3 => {
+                        if on_b {
+                            let c = chips[k];
+                            let r = shortcuts::control_b(c, value);
+                            let d = r.chip;
+                            chips[k] = d;
+                            code = r.code;
+                            shown = r.value;
+                        } else {
+                            let c = chips[k];
+                            let r = shortcuts::control_a(c, value);
+                            let d = r.chip;
+                            chips[k] = d;
+                            code = r.code;
+                            shown = r.value;
+                        }
+                    }
+                    4 => {
+                        let c = chips[k];
+                        let r = shortcuts::write(c, on_b, value);
+                        let d = r.chip;
+                        chips[k] = d;
+                        code = r.code;
+                        shown = r.value;
+                    }
+                    5 => {
+                        let c = chips[k];
+                        let r = shortcuts::read(c, on_b, value);
+                        let d = r.chip;
+                        chips[k] = d;
+                        code = r.code;
+                        shown = r.value;
+                    }
+                    6 => {
+                        let c = chips[k];
+                        let r = shortcuts::strobe(c, on_b, value);
+                        let d = r.chip;
+                        chips[k] = d;
+                        code = r.code;
+                        shown = r.value;
+                    }
+                    _ => {
+                        let c = chips[k];
+                        let r = shortcuts::lines(c, on_b, value);
+                        let d = r.chip;
+                        chips[k] = d;
+                        code = r.code;
+                        shown = r.value;
+                    }
+                }
+                let d = chips[k];
+                let m = chain::mark(d);
                 request = renewed(marks, k, m, request);
                 marks[k] = m;
                 due = due | board::stirred(d);
-                buffers::put_record(&mut answers[to..], r.code, place, r.value, request);
+                buffers::put_record(&mut answers[to..], code, place, shown, request);
                 continue;
             }
         }

@@ -2,11 +2,14 @@
 -- Assumes nothing.
 use mathlib.Core.Path.{_≡_, refl, sym, ap, ap₂, _∙_}
 use mathlib.Core.Bool.{Bool, true, false, _&&_, _||_, not, Bool·beq, false≢true, true≢false}
+use mathlib.Core.List.{[], _∷_}
 use Prim.Native.Nat.{ℕ}
+use types.Run.{OneOf}
+use denote.Enum.Declared.{tagOf}
 use Rattle.bits.specs.Bits.{if_then_else_, _is_}
 use Rattle.bits.proofs.Logic.{both, beq-is}
 use Rattle.port.specs.Fields.{input-at, waiting-at, matched-at, ready-at, strobe-at as port-strobe-at}
-use Rattle.port.specs.Words.{heardOf, obeyed}
+use Rattle.port.specs.Words.{heardOf, codeOf, obeyed}
 use Rattle.port.specs.Rules.{strobed, linesNow, matchNow, settled, shownOf}
 use Rattle.port.specs.Sound.{restsOf}
 use Rattle.port.specs.declared.Port.{Port}
@@ -15,11 +18,11 @@ use Rattle.port.specs.declared.Heard.{Heard}
 use Rattle.port.specs.declared.Heard.the-variants.{Said}
 use Rattle.port.specs.declared.Word.the-variants.{Vector, Mode, Interrupt, Enable, Select, Mask}
 use Rattle.port.proofs.Rest.{rests-settled}
+use Rattle.port.proofs.Heard as told
 use Rattle.chip.specs.declared.Chip.{Chip}
-use Rattle.chip.specs.declared.Acted.{Acted}
 use Rattle.chip.specs.Chip.{Side, A, B, side, port, twoWay, off, follows, acts, write, read, strobe, outside, settle, obey, changed}
 use Rattle.chip.specs.Sound.{soundChip}
-use Rattle.chip.specs.Act.{eventOf, step, actOf, controlledOf}
+use Rattle.chip.specs.Act.{eventOf, step, actOf}
 use Rattle.chip.proofs.Keep.{apart, rest-same}
 use Rattle.chip.proofs.Ways.{made, acted}
 use Rattle.chip.proofs.Ways as ways
@@ -81,14 +84,18 @@ module _ (c : Chip) (s : Bool) where
       let r = apart c h .1 in
       follows-all (changed B (strobe level) c) (matched-now (follows A c) true (c .a) (r .0)) (matched-now (follows B c) (not (off B c)) (c .b) (r .1))
 
-  -- ---- outside levels: the other port is as it was
-  pub lines-at-b : (v : ℕ) (f : Bool) (p q : Port) → s ≡ true → p ≡ linesNow v (c .b) → f ≡ follows B c → q ≡ settled f (not (c .a .mode is 2)) p → soundChip c ≡ true → made (c .a) q ≡ step (side s) (outside v) c
-  unfolding step
-  lines-at-b v f p q e i j k h = rw (e, k, j, i) (ap (λ (x : Port). made x (settled (follows B c) (not (off B c)) (linesNow v (c .b)))) (sym (rests-settled (follows A c) true (c .a) (apart c h .1 .0))))
+-- ---- outside levels: the other port is as it was
+pub lines-b : (c : Chip) (s : Bool) (v : ℕ) (f : Bool) (p q : Port) → s ≡ true → p ≡ linesNow v (c .b) → f ≡ follows B c → q ≡ settled f (not (c .a .mode is 2)) p
+    → soundChip c ≡ true → acted (made (c .a) q) 0 v ≡ actOf (side s) (eventOf 7 v) v c
+lines-b c s v f p q e i j k h =
+    ways.act-outside (side s) 7 v c (changed (side s) (outside v) c) (made (c .a) q) refl refl refl refl refl
+    (rw (e, k, j, i) (ap (λ (x : Port). made x (settled (follows B c) (not (off B c)) (linesNow v (c .b)))) (sym (rests-settled (follows A c) true (c .a) (apart c h .1 .0)))))
 
-  pub lines-at-a : (v : ℕ) (f : Bool) (p q : Port) → s ≡ false → p ≡ linesNow v (c .a) → f ≡ follows A c → q ≡ settled f true p → soundChip c ≡ true → made q (c .b) ≡ step (side s) (outside v) c
-  unfolding step
-  lines-at-a v f p q e i j k h = rw (e, k, j, i) (ap (made (settled (follows A c) true (linesNow v (c .a)))) (sym (rests-settled (follows B c) (not (off B c)) (c .b) (apart c h .1 .1))))
+pub lines-a : (c : Chip) (s : Bool) (v : ℕ) (f : Bool) (p q : Port) → s ≡ false → p ≡ linesNow v (c .a) → f ≡ follows A c → q ≡ settled f true p
+    → soundChip c ≡ true → acted (made q (c .b)) 0 v ≡ actOf (side s) (eventOf 7 v) v c
+lines-a c s v f p q e i j k h =
+    ways.act-outside (side s) 7 v c (changed (side s) (outside v) c) (made q (c .b)) refl refl refl refl refl
+    (rw (e, k, j, i) (ap (made (settled (follows A c) true (linesNow v (c .a)))) (sym (rests-settled (follows B c) (not (off B c)) (c .b) (apart c h .1 .1)))))
 
 -- a strobe that stays at its level ends nothing
 never : (s acts : Bool) → (not s && s && acts) ≡ false
@@ -122,6 +129,11 @@ pub strobe-at : (c : Chip) (s level x y : Bool) (p q : Port) (d : Chip) → x �
     → p ≡ strobed (acts A c) x (c .a) → q ≡ strobed (acts B c) y (c .b) → d ≡ followed (made p q) → soundChip c ≡ true → d ≡ step (side s) (strobe level) c
 strobe-at c s level x y p q d e f i j k h = rw (k, i, j, e, f) (strobe-both c s level h)
 
+pub act-strobe : (c : Chip) (s : Bool) (v : ℕ) (d : Chip) → (soundChip c ≡ true → d ≡ step (side s) (strobe (v is 1)) c) → soundChip c ≡ true
+    → acted d 0 v ≡ actOf (side s) (eventOf 6 v) v c
+unfolding step
+act-strobe c s v d e h = ways.act-strobe (side s) 6 v c (changed (side s) (strobe (v is 1)) c) d refl refl refl refl refl (e h)
+
 -- ---- a control word to B: no word moves the strobe, so A rests as before
 obeyed-strobe : (linked : Bool) (p : Port) (w : Word) → obeyed linked p w .strobe ≡ p .strobe
 unfolding if_then_else_
@@ -138,39 +150,35 @@ a-rests c w h =
     ap (λ (t : Bool). settled (((c .a .mode is 1) && not (c .a .strobe)) || (twoWay c && not t)) true (c .a)) (obeyed-strobe (twoWay c) (c .b) w)
     ∙ rests-settled (follows A c) true (c .a) (apart c h .1 .0)
 
-pub word-b : (c : Chip) (s : Bool) (w : Word) (f : Bool) (p q : Port) → s ≡ true → p ≡ obeyed (c .a .mode is 2) (c .b) w → f ≡ follows B (made (c .a) p)
-    → q ≡ settled f (not (c .a .mode is 2)) p → soundChip c ≡ true → made (c .a) q ≡ settle (obey (side s) w c)
-word-b c s w f p q e i j k h = rw (e, k, j, i) (ap (λ (x : Port). made x (settle (obey B w c) .b)) (sym (a-rests c w h)))
+pub word-b : (c : Chip) (v : ℕ) (h : Heard) (w : Word) (f : Bool) (p q : Port) → h ≡ heardOf (c .b .awaiting) true v → h ≡ Said w → p ≡ obeyed (c .a .mode is 2) (c .b) w
+    → f ≡ follows B (made (c .a) p) → q ≡ settled f (not (c .a .mode is 2)) p → soundChip c ≡ true → acted (made (c .a) q) 0 v ≡ actOf (side true) (eventOf 3 v) v c
+word-b c v h w f p q e t i j k g =
+    ways.act-control B 3 v c (acted (made (c .a) q) 0 v) refl
+    (ways.went-on true v c (obey B w c) (made (c .a) q) (c .b) h w refl e t refl
+    (rw (k, j, i) (ap (λ (x : Port). made x (settle (obey B w c) .b)) (sym (a-rests c w g)))))
 
-pub word-a : (c : Chip) (s : Bool) (w : Word) (f g : Bool) (p x y : Port) → s ≡ false → p ≡ obeyed false (c .a) w
-    → f ≡ follows A (made p (ready-at (c .b .ready && Bool·beq (c .a .mode is 2) (p .mode is 2)) (c .b))) → x ≡ settled f true p
-    → g ≡ follows B (made p (ready-at (c .b .ready && Bool·beq (c .a .mode is 2) (p .mode is 2)) (c .b)))
-    → y ≡ settled g (not (p .mode is 2)) (ready-at (c .b .ready && Bool·beq (c .a .mode is 2) (p .mode is 2)) (c .b)) → made x y ≡ settle (obey (side s) w c)
-word-a c s w f g p x y e i j k l m = rw (e, k, j, m, l, i)
+abbrev recoupled : Chip → Port → Port
+recoupled c p = ready-at (c .b .ready && Bool·beq (c .a .mode is 2) (p .mode is 2)) (c .b)
 
--- ---- one event, by its kind
-pub taken : (s : Bool) (v : ℕ) (c d : Chip) (p : Port) (h : Heard) (w : Word) → p ≡ port (side s) c → h ≡ heardOf (p .awaiting) s v → h ≡ Said w
-    → (soundChip c ≡ true → d ≡ settle (obey (side s) w c)) → soundChip c ≡ true → acted d 0 v ≡ controlledOf (side s) v c
-taken s v c d p h w i e a f g = ways.went-on s v c (obey (side s) w c) d p h w i e a refl (f g)
+pub word-a : (c : Chip) (v : ℕ) (h : Heard) (w : Word) (f g : Bool) (p x y : Port) → h ≡ heardOf (c .a .awaiting) false v → h ≡ Said w → p ≡ obeyed false (c .a) w
+    → f ≡ follows A (made p (recoupled c p)) → x ≡ settled f true p → g ≡ follows B (made p (recoupled c p)) → y ≡ settled g (not (p .mode is 2)) (recoupled c p)
+    → acted (made x y) 0 v ≡ actOf (side false) (eventOf 3 v) v c
+word-a c v h w f g p x y e t i j k l m =
+    ways.act-control A 3 v c (acted (made x y) 0 v) refl (ways.went-on false v c (obey A w c) (made x y) (c .a) h w refl e t refl (rw (k, j, m, l, i)))
 
-pub act-control : (s : Side) (k v : ℕ) (c : Chip) (r : Acted) → (k is 3) ≡ true → (soundChip c ≡ true → r ≡ controlledOf s v c) → soundChip c ≡ true
-    → r ≡ actOf s (eventOf k v) v c
-act-control s k v c r e f g = ways.act-control s k v c r e (f g)
+-- ---- a refused control byte
+pub refused-b : (c : Chip) (v n : ℕ) (h : Heard) → h ≡ heardOf (c .b .awaiting) true v → n ≡ codeOf h → OneOf (1 ∷ 2 ∷ []) (tagOf told.the-type h)
+    → acted c n v ≡ actOf (side true) (eventOf 3 v) v c
+refused-b c v n h e q t = ways.act-control B 3 v c (acted c n v) refl (ways.left-early true v n c (c .b) h refl e q t)
 
-pub act-write : (s : Side) (k v : ℕ) (c d : Chip) → (k is 3) ≡ false → (k is 4) ≡ true → d ≡ changed s (write v) c → soundChip c ≡ true
-    → acted d 0 v ≡ actOf s (eventOf k v) v c
-act-write s k v c d e f i g = ways.act-write s k v c (changed s (write v) c) d e f refl (i ∙ write-rests s v c g)
+pub refused-a : (c : Chip) (v n : ℕ) (h : Heard) → h ≡ heardOf (c .a .awaiting) false v → n ≡ codeOf h → OneOf (1 ∷ 2 ∷ []) (tagOf told.the-type h)
+    → acted c n v ≡ actOf (side false) (eventOf 3 v) v c
+refused-a c v n h e q t = ways.act-control A 3 v c (acted c n v) refl (ways.left-early false v n c (c .a) h refl e q t)
 
-pub act-read : (s : Side) (k v n : ℕ) (c d : Chip) (p : Port) → (k is 3) ≡ false → (k is 4) ≡ false → (k is 5) ≡ true → p ≡ port s c
-    → d ≡ changed s read c → n ≡ shownOf p → soundChip c ≡ true → acted d 1 n ≡ actOf s (eventOf k v) v c
-act-read s k v n c d p e f h j i l g = ways.act-read s k v n c (changed s read c) d p e f h j refl (i ∙ read-rests s c g) l
+-- ---- data
+pub act-write : (c : Chip) (s : Bool) (v : ℕ) (d : Chip) → d ≡ changed (side s) (write v) c → soundChip c ≡ true → acted d 0 v ≡ actOf (side s) (eventOf 4 v) v c
+act-write c s v d i g = ways.act-write (side s) 4 v c (changed (side s) (write v) c) d refl refl refl (i ∙ write-rests (side s) v c g)
 
-pub act-strobe : (s : Side) (k v : ℕ) (c d : Chip) → (k is 3) ≡ false → (k is 4) ≡ false → (k is 5) ≡ false → (k is 6) ≡ true
-    → (soundChip c ≡ true → d ≡ step s (strobe (v is 1)) c) → soundChip c ≡ true → acted d 0 v ≡ actOf s (eventOf k v) v c
-unfolding step
-act-strobe s k v c d e f h j i g = ways.act-strobe s k v c (changed s (strobe (v is 1)) c) d e f h j refl (i g)
-
-pub act-outside : (s : Side) (k v : ℕ) (c d : Chip) → (k is 3) ≡ false → (k is 4) ≡ false → (k is 5) ≡ false → (k is 6) ≡ false
-    → (soundChip c ≡ true → d ≡ step s (outside v) c) → soundChip c ≡ true → acted d 0 v ≡ actOf s (eventOf k v) v c
-unfolding step
-act-outside s k v c d e f h j i g = ways.act-outside s k v c (changed s (outside v) c) d e f h j refl (i g)
+pub act-read : (c : Chip) (s : Bool) (v n : ℕ) (d : Chip) (p : Port) → p ≡ port (side s) c → d ≡ changed (side s) read c → n ≡ shownOf p → soundChip c ≡ true
+    → acted d 1 n ≡ actOf (side s) (eventOf 5 v) v c
+act-read c s v n d p j i l g = ways.act-read (side s) 5 v n c (changed (side s) read c) d p refl refl refl j refl (i ∙ read-rests (side s) c g) l

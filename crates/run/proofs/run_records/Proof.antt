@@ -1,6 +1,8 @@
 -- `run::run_records` meets its contract: each way of a record is a turn of the run.
 -- Assumes nothing.
 use mathlib.Core.Path.{sym, _∙_}
+use mathlib.Core.Bool.{true, false}
+use mathlib.Core.Logic.{⊎-elim}
 use Prim.Native.Nat.{_+_, _*_, _-_, _/_, _≤_}
 use native.Mathlib.Omega.{arith}
 use lib.ListN.{length}
@@ -10,7 +12,7 @@ use Rattle.run.proofs.Turns.{Running, begin, done}
 use Rattle.run.proofs.Kept.{Kept}
 use Rattle.run.proofs.Ways.{Going, kept-begins, whole-turn, idle-turn, single-turn}
 use Rattle.run.proofs.Fast.{passing-turn}
-use Rattle.run.proofs.Places.{act-turn}
+use Rattle.run.proofs.Places.{Acts, by-kind, by-side, by-rest, act-turn}
 use Rattle.run.proofs.run_records.Statement.{statement}
 use Rattle.run.proofs.run_records.Tie as tie
 
@@ -55,7 +57,20 @@ module _ (c : Here) where
         byte = omega (arith, c .before .before .before .before .before .before .before .shared-slice-known .given (4 * c .before .loop .i + 2));
       }
 
--- ---- the five ways
+-- ---- where the five kinds meet
+acts : (c : tie.At-match-came Inv-loop μ-loop) →
+    Acts (c .before .before .before .before .before .before .before .before .before .before .before .before .before .before .before .before .before .args .events .now) (c .before .before .before .before .before .before .before .before .before .before .loop .i) (c .before .before .before .before .before .before .before .before .before .before .loop .chips) (c .match .chips) (c .match .code) (c .match .shown)
+acts c =
+    ⊎-elim (λ w. by-side (w .3 .result) true (w .1 .taken) (w .0 .keys1) (w .3 .ensures) (w .5) (w .6) (w .7))
+    (⊎-elim (λ w. by-side (w .3 .result) false (w .1 .left) (w .0 .keys1) (w .3 .ensures) (w .5) (w .6) (w .7))
+    (⊎-elim (λ w. by-kind (w .2 .result) 4 (w .0 .keys2) (w .2 .ensures) (w .4) (w .5) (w .6))
+    (⊎-elim (λ w. by-kind (w .2 .result) 5 (w .0 .keys3) (w .2 .ensures) (w .4) (w .5) (w .6))
+    (⊎-elim (λ w. by-kind (w .2 .result) 6 (w .0 .keys4) (w .2 .ensures) (w .4) (w .5) (w .6))
+    (λ w.
+    by-rest (w .2 .result) (w .0 .rest .0 .0 .0 .1) (w .0 .rest .0 .0 .1) (w .0 .rest .0 .1) (w .0 .rest .1) (w .2 .ensures) (w .4) (w .5) (w .6))))))
+    (c .match .came)
+
+-- ---- the ways of a record
 loop-again : tie.Need-loop-again Inv-loop μ-loop
 loop-again c =
     let here = c .before .before .before .before .before .before .before .before .before .before .before .before in
@@ -64,29 +79,26 @@ loop-again c =
 
 loop-again-2 : tie.Need-loop-again-2 Inv-loop μ-loop
 loop-again-2 c =
-    let here = c .before .before .before .before .before .before .before .before .before .before .before .before .before .before .before .before .before .before in
-    act-turn (going here) (c .before .before .before .before .before .before .before .before .before .before .before .before .if3 .taken) (sym (c .before .before .before .before .before .before .before .before .before .before .before .early-refusal .ensures) ∙ c .before .before .before .before .before .before .before .before .before .before .if4 .taken)
-    (c .before .before .before .before .before .before .before .before .act .result) _ _ _ _ (c .before .before .before .before .before .before .before .before .act .ensures) (c .before .before .before .before .before .before .remark .ensures) (c .before .before .before .before .before .renewed .ensures) (c .before .before .before .before .stirred .ensures)
+    let here = c .before .before .before .before .before .before .before .before .before .before .before .before .before .before .before .before .before in
+    act-turn (going here) (c .before .before .before .before .before .before .before .before .before .before .before .if3 .taken) (sym (c .before .before .before .before .before .before .before .before .before .before .early-refusal .ensures) ∙ c .before .before .before .before .before .before .before .before .before .if4 .taken) (acts (c .before .before .before .before .before .before .before .before)) _ _ _ _ (c .before .before .before .before .before .before .mark .ensures) (c .before .before .before .before .before .renewed .ensures) (c .before .before .before .before .stirred .ensures)
     (room-rest _ _ 4 _ _ (answer-fits here) (omega arith) (c .before .before .put-record2 .ensures .1))
 
 loop-again-3 : tie.Need-loop-again-3 Inv-loop μ-loop
 loop-again-3 c =
     let here = c .before .before .before .before .before .before .before .before .before .before .before .before .before .before .before .before .before in
-    whole-turn (going here) (c .before .before .before .before .before .before .before .before .before .step-reads .result) (c .before .before .before .before .before .before .before .before .before .step-reads .ensures .0) (c .before .before .before .before .before .before .step-chips .result) _
-    (c .before .before .before .before .before .before .before .if5 .taken) (c .before .before .before .before .before .before .step-chips .ensures)
+    whole-turn (going here) (c .before .before .before .before .before .before .before .before .before .step-reads .result) (c .before .before .before .before .before .before .before .before .before .step-reads .ensures .0) (c .before .before .before .before .before .before .step-chips .result) _ (c .before .before .before .before .before .before .before .if6 .taken) (c .before .before .before .before .before .before .step-chips .ensures)
     (room-rest _ _ 4 _ _ (answer-fits here) (omega arith) (c .before .before .put-record3 .ensures .1))
 
 loop-again-4 : tie.Need-loop-again-4 Inv-loop μ-loop
 loop-again-4 c =
     let here = c .before .before .before .before .before .before .before .before .before .before .before .before .before .before .before .before in
-    idle-turn (going here) (c .before .before .before .before .before .before .before .before .step-reads .result) (c .before .before .before .before .before .before .before .before .step-reads .ensures .0) _ (c .before .before .before .before .before .before .if5 .left) (c .before .before .before .before .if6 .taken)
+    idle-turn (going here) (c .before .before .before .before .before .before .before .before .step-reads .result) (c .before .before .before .before .before .before .before .before .step-reads .ensures .0) _ (c .before .before .before .before .before .before .if6 .left) (c .before .before .before .before .if7 .taken)
     (room-rest _ _ 4 _ _ (answer-fits here) (omega arith) (c .before .before .put-record4 .ensures .1))
 
 loop-again-5 : tie.Need-loop-again-5 Inv-loop μ-loop
 loop-again-5 c =
     let here = c .before .before .before .before .before .before .before .before .before .before .before .before .before .before .before .before .before .before .before .before .before in
-    single-turn (going here) (c .before .before .before .before .before .before .before .before .before .before .before .before .before .step-reads .result) (c .before .before .before .before .before .before .before .before .before .before .before .before .before .step-reads .ensures .0) (c .before .before .before .before .before .before .before .step-chip .result) _
-    (c .before .before .before .before .before .before .before .before .before .before .before .if5 .left) (c .before .before .before .before .before .before .before .before .before .if6 .left) (c .before .before .before .before .before .before .before .step-chip .ensures)
+    single-turn (going here) (c .before .before .before .before .before .before .before .before .before .before .before .before .before .step-reads .result) (c .before .before .before .before .before .before .before .before .before .before .before .before .before .step-reads .ensures .0) (c .before .before .before .before .before .before .before .step-chip .result) _ (c .before .before .before .before .before .before .before .before .before .before .before .if6 .left) (c .before .before .before .before .before .before .before .before .before .if7 .left) (c .before .before .before .before .before .before .before .step-chip .ensures)
     (room-rest _ _ 4 _ _ (answer-fits here) (omega arith) (c .before .before .put-record5 .ensures .1))
 
 returns : tie.Need-returns Inv-loop μ-loop
@@ -129,16 +141,42 @@ run-records-spec =
     (λ c κs. search needs)
     (λ c. omega arith)
     (λ c. search needs)
+    (λ c. omega arith)
+    (λ c. search needs)
+    (λ c κs. search needs)
+    (λ c. omega arith)
+    (λ c. search needs)
+    (λ c. omega arith)
+    (λ c. search needs)
+    (λ c κs. search needs)
+    (λ c. omega arith)
+    (λ c. search needs)
+    (λ c. omega arith)
+    (λ c. search needs)
+    (λ c κs. search needs)
+    (λ c. omega arith)
+    (λ c. search needs)
+    (λ c. omega arith)
+    (λ c. search needs)
+    (λ c κs. search needs)
+    (λ c. omega arith)
+    (λ c. search needs)
+    (λ c. omega arith)
+    (λ c. search needs)
+    (λ c κs. search needs)
+    (λ c. omega arith)
+    (λ c. search needs)
+    (λ c. omega arith)
     (λ c. search needs)
     (λ c κs. search needs)
     (λ c κs. search needs)
     (λ c. search needs)
     (λ c κs. search needs)
-    (λ c. omega (arith, answer-fits (c .before .before .before .before .before .before .before .before .before .before .before .before .before .before)))
-    (λ c. omega (arith, answer-fits (c .before .before .before .before .before .before .before .before .before .before .before .before .before .before)))
-    (λ c. omega (arith, answer-fits (c .before .before .before .before .before .before .before .before .before .before .before .before .before .before)))
+    (λ c. omega (arith, answer-fits (c .before .before .before .before .before .before .before .before .before .before .before .before .before)))
+    (λ c. omega (arith, answer-fits (c .before .before .before .before .before .before .before .before .before .before .before .before .before)))
+    (λ c. omega (arith, answer-fits (c .before .before .before .before .before .before .before .before .before .before .before .before .before)))
     (λ c κs. search needs)
-    (λ c. omega (arith, c .before .before .before .before .before .before .before .before .before .before .before .before .before .before .before .before .before .before .loop-test .taken))
+    (λ c. omega (arith, c .before .before .before .before .before .before .before .before .before .before .before .before .before .before .before .before .before .loop-test .taken))
     loop-again-2
     (λ c. omega (arith, events-fit (c .before .before .before .before .before .before)))
     (λ c. omega (arith, events-fit (c .before .before .before .before .before .before)))

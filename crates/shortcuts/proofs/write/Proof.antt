@@ -1,0 +1,13 @@
+-- `shortcuts::write` meets its contract.
+-- Assumes nothing.
+use borrow.Author.Needs.{needs}
+use Rattle.shortcuts.proofs.Sound.{act-write}
+use Rattle.shortcuts.proofs.write.Statement.{statement}
+use Rattle.shortcuts.proofs.write.Tie as tie
+
+pub write-spec : {M : Type 1} → statement M
+write-spec =
+    tie.close
+    (tie.spec
+    (λ c κs. search needs)
+    (λ c h. search act-write))
