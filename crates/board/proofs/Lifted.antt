@@ -9,8 +9,8 @@ use native.Mathlib.Omega.{arith}
 use lib.ListN.{length, getD, set}
 use lib.Seq.{getD-set-same, getD-set-other}
 use Rattle.chip.specs.declared.Chip.{Chip}
-use Rattle.chip.specs.Chip.{Event}
-use Rattle.chip.specs.Act.{step}
+use Rattle.events.specs.Events.{Event}
+use Rattle.events.specs.Act.{step}
 use Rattle.chain.specs.Chain.{sideOf}
 use Rattle.board.specs.declared.Board.{Board}
 use Rattle.board.specs.Board.{most, soundBoard}

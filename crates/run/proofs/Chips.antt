@@ -6,19 +6,20 @@ use Prim.Native.Nat.{ℕ}
 use Rattle.bits.specs.Bits.{if_then_else_, _is_}
 use Rattle.bits.proofs.Logic.{both, beq-is}
 use Rattle.port.specs.Fields.{input-at, waiting-at, matched-at, ready-at, strobe-at as port-strobe-at}
-use Rattle.port.specs.Words.{obeyed}
 use Rattle.port.specs.Rules.{strobed, linesNow, matchNow, settled}
 use Rattle.port.specs.Sound.{restsOf}
 use Rattle.port.specs.declared.Port.{Port}
-use Rattle.port.specs.declared.Word.{Word}
-use Rattle.port.specs.declared.Word.the-variants.{Vector, Mode, Interrupt, Enable, Select, Mask}
 use Rattle.port.proofs.Rest.{rests-settled}
+use Rattle.words.specs.Words.{obeyed}
+use Rattle.words.specs.declared.Word.{Word}
+use Rattle.words.specs.declared.Word.the-variants.{Vector, Mode, Interrupt, Enable, Select, Mask}
 use Rattle.chip.specs.declared.Chip.{Chip}
-use Rattle.chip.specs.Chip.{Side, A, B, side, twoWay, off, follows, acts, write, read, strobe, outside, settle, obey, changed}
+use Rattle.chip.specs.Chip.{Side, A, B, side, twoWay, off, follows, settle}
 use Rattle.chip.specs.Sound.{soundChip}
-use Rattle.chip.specs.Act.{step}
 use Rattle.chip.proofs.Keep.{apart, rest-same}
 use Rattle.chip.proofs.Ways.{made}
+use Rattle.events.specs.Events.{acts, write, read, strobe, outside, obey, changed}
+use Rattle.events.specs.Act.{step}
 use Rattle.chain.specs.Marks.{markOf}
 use Rattle.board.proofs.Ways.{off as turned-off, on as turned-on}
 use Rattle.run.specs.Fast.{following, followed}

@@ -15,21 +15,22 @@ use denote.Enum.Declared.{tagOf}
 use Rattle.bits.specs.Bits.{if_then_else_, _is_}
 use Rattle.bits.proofs.Logic.{both}
 use Rattle.bits.proofs.Tests.{if-on}
-use Rattle.port.specs.Words.{heardOf, codeOf}
 use Rattle.port.specs.Rules.{matchNow, shownOf}
 use Rattle.port.specs.declared.Port.{Port}
-use Rattle.port.specs.declared.Word.{Word}
-use Rattle.port.specs.declared.Heard.{Heard}
-use Rattle.port.specs.declared.Heard.the-variants.{Said}
-use Rattle.port.proofs.Heard as told
+use Rattle.words.specs.Words.{heardOf, codeOf}
+use Rattle.words.specs.declared.Word.{Word}
+use Rattle.words.specs.declared.Heard.{Heard}
+use Rattle.words.specs.declared.Heard.the-variants.{Said}
+use Rattle.words.proofs.Heard as told
 use Rattle.chip.specs.declared.Chip.{Chip}
-use Rattle.chip.specs.declared.Acted.{Acted}
-use Rattle.chip.specs.Chip.{Side, A, B, side, port, write, read, strobe, outside, settle, obey, changed}
+use Rattle.chip.specs.Chip.{Side, A, B, side, port, settle}
 use Rattle.chip.specs.Chip as chip
 use Rattle.chip.specs.Sound.{soundChip}
-use Rattle.chip.specs.Act.{eventOf, step, actOf}
 use Rattle.chip.proofs.Keep.{apart, rest-same}
-use Rattle.chip.proofs.Ways.{acted, left-early, went-on, act-control, act-write, act-read, act-strobe, act-outside}
+use Rattle.events.specs.declared.Acted.{Acted}
+use Rattle.events.specs.Events.{write, read, strobe, outside, obey, changed}
+use Rattle.events.specs.Act.{eventOf, step, actOf}
+use Rattle.events.proofs.Ways.{acted, left-early, went-on, act-control, act-write, act-read, act-strobe, act-outside}
 use Rattle.chain.specs.declared.Decoder.{Decoder}
 use Rattle.chain.specs.Chain.{sideOf}
 use Rattle.chain.specs.Marks.{markOf, marksOf}

@@ -4,9 +4,9 @@
 use board::Board;
 use chain::Decoder;
 use chip::Chip;
-use port::Heard;
 use port::Port;
-use port::Word;
+use words::Heard;
+use words::Word;
 ghost use mathlib.Core.Path.{_≡_};
 ghost use mathlib.Core.Bool.{true, false};
 ghost use Prim.Native.Nat.{_+_, _*_, _/_, _%_, _≤_};
@@ -16,9 +16,10 @@ ghost use Rattle.buffers.specs.Splice.{splice};
 ghost use Rattle.chain.specs.Marks.{markOf};
 ghost use Rattle.board.specs.Board.{soundBoard};
 ghost use Rattle.board.specs.Halves.{lookOf, signalOf, stirsPort};
-ghost use Rattle.chip.specs.Chip.{side, write, read, strobe, outside, settle, obey};
+ghost use Rattle.chip.specs.Chip.{side, settle};
 ghost use Rattle.chip.specs.Sound.{soundChip};
-ghost use Rattle.chip.specs.Act.{step};
+ghost use Rattle.events.specs.Events.{write, read, strobe, outside, obey};
+ghost use Rattle.events.specs.Act.{step};
 ghost use Rattle.run.specs.Fast.{passesOf, following, followed};
 ghost use Rattle.run.specs.Run.{records, stepsOf, answersOf, refusalOf, ranOf, bufferOf};
 
@@ -62,14 +63,14 @@ fn passes(decoder: Decoder, due: bool, place: u8, value: u8, last: u8) -> bool
 fn write_at(c: Chip, on_b: bool, value: u8) -> Chip
     ensures { λ r. ⌜ (soundChip c ≡ true → r ≡ step (side «on_b») (write value) c) ⌝ }
 {
-    chip::write_data(c, on_b, value)
+    events::write_data(c, on_b, value)
 }
 
 // The CPU has read: nothing is left to settle.
 fn read_at(c: Chip, on_b: bool) -> Chip
     ensures { λ r. ⌜ (soundChip c ≡ true → r ≡ step (side «on_b») read c) ⌝ }
 {
-    chip::read_data(c, on_b)
+    events::read_data(c, on_b)
 }
 
 // The port's input register takes its lines, if it follows them.
@@ -144,7 +145,7 @@ fn word_to_b(c: Chip, w: Word) -> Chip
 {
     let a = c.a;
     let two = a.mode == 2;
-    let q = port::obey(c.b, two, w);
+    let q = words::obey(c.b, two, w);
     let d = Chip { a: a, b: q };
     Chip {
         a: a,
@@ -158,7 +159,7 @@ fn word_to_a(c: Chip, w: Word) -> Chip
 {
     let a = c.a;
     let b = c.b;
-    let q = port::obey(a, false, w);
+    let q = words::obey(a, false, w);
     let two = q.mode == 2;
     let mut r = b;
     r.ready = b.ready & ((a.mode == 2) == two);
@@ -290,9 +291,9 @@ fn run_records(
                 if on_b {
                     let c = chips[k];
                     let p = c.b;
-                    let h = port::hear(p.awaiting, true, value);
+                    let h = words::hear(p.awaiting, true, value);
                     let Heard::Said(w) = h else {
-                        let code = port::code(h);
+                        let code = words::code(h);
                         buffers::put_record(&mut answers[to..], code, place, value, request);
                         continue;
                     };
@@ -308,9 +309,9 @@ fn run_records(
                 }
                 let c = chips[k];
                 let p = c.a;
-                let h = port::hear(p.awaiting, false, value);
+                let h = words::hear(p.awaiting, false, value);
                 let Heard::Said(w) = h else {
-                    let code = port::code(h);
+                    let code = words::code(h);
                     buffers::put_record(&mut answers[to..], code, place, value, request);
                     continue;
                 };

@@ -1,9 +1,9 @@
--- `chip::strobe_line` meets its contract.
+-- `events::strobe_line` meets its contract.
 -- Assumes nothing.
 use borrow.Author.Needs.{needs}
-use Rattle.chip.proofs.Ways.{strobe-b, strobe-a}
-use Rattle.chip.proofs.strobe_line.Statement.{statement}
-use Rattle.chip.proofs.strobe_line.Tie as tie
+use Rattle.events.proofs.Ways.{strobe-b, strobe-a}
+use Rattle.events.proofs.strobe_line.Statement.{statement}
+use Rattle.events.proofs.strobe_line.Tie as tie
 
 pub strobe-line-spec : {M : Type 1} → statement M
 strobe-line-spec =

@@ -1,9 +1,9 @@
--- `chip::outside_lines` meets its contract.
+-- `events::outside_lines` meets its contract.
 -- Assumes nothing.
 use borrow.Author.Needs.{needs}
-use Rattle.chip.proofs.Ways.{outside-b, outside-a}
-use Rattle.chip.proofs.outside_lines.Statement.{statement}
-use Rattle.chip.proofs.outside_lines.Tie as tie
+use Rattle.events.proofs.Ways.{outside-b, outside-a}
+use Rattle.events.proofs.outside_lines.Statement.{statement}
+use Rattle.events.proofs.outside_lines.Tie as tie
 
 pub outside-lines-spec : {M : Type 1} → statement M
 outside-lines-spec =

@@ -1,9 +1,9 @@
--- `chip::obey_word` meets its contract.
+-- `events::obey_word` meets its contract.
 -- Assumes nothing.
 use borrow.Author.Needs.{needs}
-use Rattle.chip.proofs.Ways.{obey-b, obey-a}
-use Rattle.chip.proofs.obey_word.Statement.{statement}
-use Rattle.chip.proofs.obey_word.Tie as tie
+use Rattle.events.proofs.Ways.{obey-b, obey-a}
+use Rattle.events.proofs.obey_word.Statement.{statement}
+use Rattle.events.proofs.obey_word.Tie as tie
 
 pub obey-word-spec : {M : Type 1} → statement M
 obey-word-spec =

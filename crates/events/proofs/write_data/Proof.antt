@@ -1,9 +1,9 @@
--- `chip::write_data` meets its contract.
+-- `events::write_data` meets its contract.
 -- Assumes nothing.
 use borrow.Author.Needs.{needs}
-use Rattle.chip.proofs.Ways.{write-b, write-a}
-use Rattle.chip.proofs.write_data.Statement.{statement}
-use Rattle.chip.proofs.write_data.Tie as tie
+use Rattle.events.proofs.Ways.{write-b, write-a}
+use Rattle.events.proofs.write_data.Statement.{statement}
+use Rattle.events.proofs.write_data.Tie as tie
 
 pub write-data-spec : {M : Type 1} → statement M
 write-data-spec =

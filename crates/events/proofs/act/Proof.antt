@@ -1,10 +1,10 @@
--- `chip::act` meets its contract.
+-- `events::act` meets its contract.
 -- Assumes nothing.
 use borrow.Author.Needs.{needs}
 use Rattle.bits.proofs.Tests.{tests}
-use Rattle.chip.proofs.Ways.{act-control, act-write, act-read, act-strobe, act-outside}
-use Rattle.chip.proofs.act.Statement.{statement}
-use Rattle.chip.proofs.act.Tie as tie
+use Rattle.events.proofs.Ways.{act-control, act-write, act-read, act-strobe, act-outside}
+use Rattle.events.proofs.act.Statement.{statement}
+use Rattle.events.proofs.act.Tie as tie
 
 pub act-spec : {M : Type 1} → statement M
 act-spec =

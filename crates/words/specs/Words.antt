@@ -3,12 +3,12 @@
 use Prim.Native.Nat.{ℕ, _/_, _%_}
 use mathlib.Core.Bool.{Bool, false, _&&_}
 use Rattle.bits.specs.Bits.{if_then_else_, _is_, bit}
 use Rattle.port.specs.Fields.{mode-at, ready-at, vector-at, select-at, mask-at, all-at, high-at, asked-at, live-at, waiting-at, awaiting-at}
 use Rattle.port.specs.declared.Port.{Port}
-use Rattle.port.specs.declared.Word.{Word}
-use Rattle.port.specs.declared.Word.the-variants.{Vector, Mode, Interrupt, Enable, Select, Mask}
-use Rattle.port.specs.declared.Heard.{Heard}
-use Rattle.port.specs.declared.Heard.the-variants.{Said, NoForm, NotOnB}
+use Rattle.words.specs.declared.Word.{Word}
+use Rattle.words.specs.declared.Word.the-variants.{Vector, Mode, Interrupt, Enable, Select, Mask}
+use Rattle.words.specs.declared.Heard.{Heard}
+use Rattle.words.specs.declared.Heard.the-variants.{Said, NoForm, NotOnB}
 
 -- A port awaiting select (1) or mask (2) takes the next control byte, of any value, as that register. Otherwise: bit 0 is 0,
 -- vector; low four bits 1111, mode from bits 7 and 6; 0111, interrupt control; 0011, enable from bit 7; the rest has no form.

@@ -1,9 +1,9 @@
--- `chip::control` meets its contract.
+-- `events::control` meets its contract.
 -- Assumes nothing.
 use borrow.Author.Needs.{needs}
-use Rattle.chip.proofs.Ways.{left-early, went-on}
-use Rattle.chip.proofs.control.Statement.{statement}
-use Rattle.chip.proofs.control.Tie as tie
+use Rattle.events.proofs.Ways.{left-early, went-on}
+use Rattle.events.proofs.control.Statement.{statement}
+use Rattle.events.proofs.control.Tie as tie
 
 pub control-spec : {M : Type 1} → statement M
 control-spec =

@@ -1,8 +1,8 @@
--- `port::hear` meets its contract: the tests on the way out are the definition's own.
+-- `words::hear` meets its contract: the tests on the way out are the definition's own.
 -- Assumes nothing.
 use Rattle.bits.proofs.Tests.{tests}
-use Rattle.port.proofs.hear.Statement.{statement}
-use Rattle.port.proofs.hear.Tie as tie
+use Rattle.words.proofs.hear.Statement.{statement}
+use Rattle.words.proofs.hear.Tie as tie
 
 pub hear-spec : {M : Type 1} → statement M
 hear-spec =

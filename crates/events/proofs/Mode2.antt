@@ -6,10 +6,11 @@ use mathlib.Core.Bool.{Bool, true, false, _&&_, _||_, not, Bool·beq, or-true, a
 use Prim.Native.Nat.{ℕ}
 use Rattle.bits.specs.Bits.{if_then_else_, _is_}
 use Rattle.port.specs.Rules.{matchNow}
-use Rattle.port.specs.declared.Word.{Word}
-use Rattle.port.specs.declared.Word.the-variants.{Vector, Mode, Interrupt, Enable, Select, Mask}
+use Rattle.words.specs.declared.Word.{Word}
+use Rattle.words.specs.declared.Word.the-variants.{Vector, Mode, Interrupt, Enable, Select, Mask}
 use Rattle.chip.specs.declared.Chip.{Chip}
-use Rattle.chip.specs.Chip.{Side, A, B, port, twoWay, write, read, strobe, settle, obey, changed}
+use Rattle.chip.specs.Chip.{Side, A, B, port, twoWay, settle}
+use Rattle.events.specs.Events.{write, read, strobe, obey, changed}
 
 -- "B's strobe serves A's input register (follows A's lines while low ..)"
 low-follows : (m t s : Bool) (x y : ℕ) → t ≡ true → s ≡ false → (if m || (t && not s) then x else y) ≡ x

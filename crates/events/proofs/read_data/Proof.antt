@@ -1,9 +1,9 @@
--- `chip::read_data` meets its contract.
+-- `events::read_data` meets its contract.
 -- Assumes nothing.
 use borrow.Author.Needs.{needs}
-use Rattle.chip.proofs.Ways.{read-b, read-a}
-use Rattle.chip.proofs.read_data.Statement.{statement}
-use Rattle.chip.proofs.read_data.Tie as tie
+use Rattle.events.proofs.Ways.{read-b, read-a}
+use Rattle.events.proofs.read_data.Statement.{statement}
+use Rattle.events.proofs.read_data.Tie as tie
 
 pub read-data-spec : {M : Type 1} → statement M
 read-data-spec =

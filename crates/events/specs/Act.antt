@@ -3,13 +3,14 @@
 -- Assumes nothing.
 use Prim.Native.Nat.{ℕ}
 use Rattle.bits.specs.Bits.{if_then_else_, _is_}
-use Rattle.port.specs.Words.{codeOf}
 use Rattle.port.specs.Rules.{shownOf}
-use Rattle.port.specs.declared.Heard.{Heard}
-use Rattle.port.specs.declared.Heard.the-variants.{Said, NoForm, NotOnB}
+use Rattle.words.specs.Words.{codeOf}
+use Rattle.words.specs.declared.Heard.{Heard}
+use Rattle.words.specs.declared.Heard.the-variants.{Said, NoForm, NotOnB}
 use Rattle.chip.specs.declared.Chip.{Chip}
-use Rattle.chip.specs.declared.Acted.{Acted}
-use Rattle.chip.specs.Chip.{Side, Event, control, write, read, strobe, outside, port, settle, heard, obey, changed}
+use Rattle.chip.specs.Chip.{Side, port, settle}
+use Rattle.events.specs.declared.Acted.{Acted}
+use Rattle.events.specs.Events.{Event, control, write, read, strobe, outside, heard, obey, changed}
 
 -- document 01, "Records": 3 control write, 4 data write, 5 data read, 6 strobe level, 7 outside levels of the eight lines
 unfoldable pub eventOf : ℕ → ℕ → Event
