@@ -12,13 +12,14 @@ use borrow.Author.Tests.{ne-eqb, eqb-true, ltb-true, leb-true}
 use Rattle.bits.specs.Bits.{if_then_else_, _is_}
 use Rattle.bits.proofs.Logic.{byCases, both}
 use Rattle.bits.proofs.Tests.{if-on, if-off}
-use Rattle.port.specs.Words.{codeOf}
 use Rattle.port.specs.Rules.{served, released}
-use Rattle.port.specs.declared.Heard.{Heard}
+use Rattle.words.specs.Words.{codeOf}
+use Rattle.words.specs.declared.Heard.{Heard}
 use Rattle.chip.specs.declared.Chip.{Chip}
-use Rattle.chip.specs.Chip.{A, side, port, on, heard, Event, control, write, read, strobe, outside}
+use Rattle.chip.specs.Chip.{A, side, port, on}
 use Rattle.chip.specs.Chip as chip
-use Rattle.chip.specs.Act.{eventOf, stepWord, step, codeAt, valueAt, actOf}
+use Rattle.events.specs.Events.{heard, Event, control, write, read, strobe, outside}
+use Rattle.events.specs.Act.{eventOf, stepWord, step, codeAt, valueAt, actOf}
 use Rattle.chain.specs.declared.Decoder.{Decoder}
 use Rattle.chain.specs.Places.{adjust}
 use Rattle.chain.specs.Chain.{asker, asks, holder, flat, sideOf, acknowledged, retired}

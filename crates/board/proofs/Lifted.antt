@@ -1,5 +1,6 @@
 -- The chip's laws on the board, once over the place: an accepted event at a place does to its chip what the chip's step does, and to
--- no other chip anything. So each law of chip/proofs, the sentences of mode 2 above all, is a law of the board at every place.
+-- no other chip anything. So each law of chip/proofs and events/proofs, the sentences of mode 2 above all, is a law of the board at
+-- every place.
 -- Assumes nothing.
 use mathlib.Core.Path.{_≡_, sym, ap, _∙_}
 use mathlib.Core.Bool.{true}
@@ -9,8 +10,8 @@ use native.Mathlib.Omega.{arith}
 use lib.ListN.{length, getD, set}
 use lib.Seq.{getD-set-same, getD-set-other}
 use Rattle.chip.specs.declared.Chip.{Chip}
-use Rattle.chip.specs.Chip.{Event}
-use Rattle.chip.specs.Act.{step}
+use Rattle.events.specs.Events.{Event}
+use Rattle.events.specs.Act.{step}
 use Rattle.chain.specs.Chain.{sideOf}
 use Rattle.board.specs.declared.Board.{Board}
 use Rattle.board.specs.Board.{most, soundBoard}

@@ -11,11 +11,13 @@ use Rattle.bits.specs.Bits.{if_then_else_, _is_}
 use Rattle.bits.proofs.Logic.{byCases, both, join}
 use Rattle.port.specs.Rules.{served, released}
 use Rattle.chip.specs.declared.Chip.{Chip}
-use Rattle.chip.specs.Chip.{settle, changed, on}
+use Rattle.chip.specs.Chip.{settle, on}
 use Rattle.chip.specs.Chip as chip
 use Rattle.chip.specs.Sound.{soundChip}
-use Rattle.chip.specs.Act.{step}
-use Rattle.chip.proofs.Keep.{settle-same, byteIn, step-is, step-sound as chip-sound, fetch-sound, serve-sound, release-sound, reset-sound, event-byte}
+use Rattle.chip.proofs.Keep.{settle-same, fetch-sound, serve-sound, release-sound, reset-sound}
+use Rattle.events.specs.Events.{changed}
+use Rattle.events.specs.Act.{step}
+use Rattle.events.proofs.Keep.{byteIn, step-is, step-sound as chip-sound, event-byte}
 use Rattle.chain.specs.declared.Decoder.{Decoder}
 use Rattle.chain.specs.Places.{adjust}
 use Rattle.chain.specs.Chain.{flat, asker, holder, sideOf, acknowledged, retired}

@@ -8,11 +8,11 @@ use lib.Dec.{ltb}
 use borrow.Author.Tests.{ltb-true}
 use Rattle.bits.specs.Bits.{if_then_else_, _is_}
 use Rattle.bits.proofs.Logic.{byCases}
-use Rattle.port.specs.declared.Word.{Word}
-use Rattle.port.specs.declared.Heard.{Heard}
-use Rattle.port.specs.declared.Heard.the-variants.{Said, NoForm, NotOnB}
-use Rattle.chip.specs.Chip.{Event, control, write, read, strobe, outside}
-use Rattle.chip.specs.Act.{eventOf}
+use Rattle.words.specs.declared.Word.{Word}
+use Rattle.words.specs.declared.Heard.{Heard}
+use Rattle.words.specs.declared.Heard.the-variants.{Said, NoForm, NotOnB}
+use Rattle.events.specs.Events.{Event, control, write, read, strobe, outside}
+use Rattle.events.specs.Act.{eventOf}
 use Rattle.board.specs.declared.Board.{Board}
 use Rattle.board.specs.Board.{soundBoard}
 use Rattle.board.specs.Step.{kindOf, placeOf, valueOf, lastOf, Line, line, verdict, placeBad, valueBad, wordCode, refusal}

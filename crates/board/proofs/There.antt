@@ -10,8 +10,9 @@ use lib.ListN.{length, length-map, take, drop, take-append-drop, set, getD}
 use Rattle.bits.specs.Bits.{if_then_else_}
 use Rattle.port.specs.Rules.{served, released}
 use Rattle.chip.specs.declared.Chip.{Chip}
-use Rattle.chip.specs.Chip.{settle, changed, on}
+use Rattle.chip.specs.Chip.{settle, on}
 use Rattle.chip.specs.Chip as chip
+use Rattle.events.specs.Events.{changed}
 use Rattle.chain.specs.declared.Decoder.{Decoder}
 use Rattle.chain.specs.Places.{adjust}
 use Rattle.chain.specs.Chain.{flat, asker, holder, sideOf, acknowledged, retired}

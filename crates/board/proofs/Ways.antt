@@ -12,10 +12,10 @@ use Rattle.bits.specs.Bits.{if_then_else_, _is_}
 use Rattle.bits.proofs.Tests.{if-on, if-off}
 use Rattle.port.specs.declared.Port.{Port}
 use Rattle.chip.specs.declared.Chip.{Chip}
-use Rattle.chip.specs.declared.Acted.{Acted}
 use Rattle.chip.specs.Chip.{side, port, serve, release, settle}
 use Rattle.chip.specs.Chip as chip
-use Rattle.chip.specs.Act.{eventOf, actOf}
+use Rattle.events.specs.declared.Acted.{Acted}
+use Rattle.events.specs.Act.{eventOf, actOf}
 use Rattle.chain.specs.Marks.{markOf, marksOf}
 use Rattle.board.specs.declared.Board.{Board}
 use Rattle.board.specs.declared.Look.{Look}

@@ -10,10 +10,10 @@ use lib.ListN.{length, getD, set, take}
 use Rattle.bits.specs.Bits.{if_then_else_, _is_}
 use Rattle.port.specs.declared.Port.{Port}
 use Rattle.chip.specs.declared.Chip.{Chip}
-use Rattle.chip.specs.declared.Acted.{Acted}
 use Rattle.chip.specs.Chip.{side, port, serve, release, settle}
 use Rattle.chip.specs.Chip as chip
-use Rattle.chip.specs.Act.{eventOf, actOf}
+use Rattle.events.specs.declared.Acted.{Acted}
+use Rattle.events.specs.Act.{eventOf, actOf}
 use Rattle.chain.specs.declared.Decoder.{Decoder}
 use Rattle.chain.specs.Decode.{shut, nextOf, retiOf}
 use Rattle.chain.specs.Marks.{markOf, marksOf, callerOf, holderOf}

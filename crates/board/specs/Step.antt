@@ -7,12 +7,13 @@ use Prim.Native.Nat.{ℕ, _*_, _/_}
 use lib.Dec.{ltb}
 use lib.ListN.{length, getD}
 use Rattle.bits.specs.Bits.{if_then_else_, _is_}
-use Rattle.port.specs.Words.{heardOf, codeOf}
 use Rattle.port.specs.Rules.{shownOf}
+use Rattle.words.specs.Words.{heardOf, codeOf}
 use Rattle.chip.specs.declared.Chip.{Chip}
-use Rattle.chip.specs.Chip.{isB, Event, control, write, read, strobe, outside, settle, changed}
+use Rattle.chip.specs.Chip.{isB, settle}
 use Rattle.chip.specs.Chip as chip
-use Rattle.chip.specs.Act.{eventOf}
+use Rattle.events.specs.Events.{Event, control, write, read, strobe, outside, changed}
+use Rattle.events.specs.Act.{eventOf}
 use Rattle.chain.specs.declared.Decoder.{Decoder}
 use Rattle.chain.specs.Places.{adjust}
 use Rattle.chain.specs.Chain.{asker, asks, sideOf, acknowledged, retired}

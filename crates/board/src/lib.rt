@@ -368,12 +368,12 @@ pub fn step_looks(board: Board, event: &[u8]) -> Plan
 }
 
 // What happens to the one chip that the event concerns.
-fn touch(c: Chip, w: Plan) -> chip::Acted
+fn touch(c: Chip, w: Plan) -> events::Acted
     ensures { λ r. ⌜ r ≡ touchedOf c w ⌝ }
 {
     if w.kind == 1 {
         let d = chip::release_port(c, w.second);
-        return chip::Acted {
+        return events::Acted {
             chip: d,
             code: 0,
             value: w.value,
@@ -382,13 +382,13 @@ fn touch(c: Chip, w: Plan) -> chip::Acted
     if w.kind == 2 {
         let p = chip::port_of(c, w.second);
         let d = chip::serve_port(c, w.second);
-        return chip::Acted {
+        return events::Acted {
             chip: d,
             code: 2,
             value: p.vector,
         };
     }
-    chip::act(c, w.second, w.kind, w.value)
+    events::act(c, w.second, w.kind, w.value)
 }
 
 // The marks with one of them set.

@@ -1,5 +1,4 @@
 pub mod Ways
 pub mod Keep
 pub mod Touch
-pub mod Mode2
 pub mod Meaning

@@ -1,3 +1,2 @@
 pub mod Chip
 pub mod Sound
-pub mod Act

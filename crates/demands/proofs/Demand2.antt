@@ -5,7 +5,7 @@ use Rattle.bits.specs.Bits.{if_then_else_}
 use Rattle.bits.specs.Lines.{matchOf, mixedOf, levelsOf}
 use Rattle.port.specs.Rules.{matchNow}
 use Rattle.chip.specs.Sound.{soundChip}
-use Rattle.chip.specs.Act.{eventOf}
+use Rattle.events.specs.Act.{eventOf}
 use Rattle.chain.specs.Chain.{acknowledged, retired}
 use Rattle.chain.specs.Decode.{nextOf, retiOf}
 use Rattle.board.specs.Board.{soundBoard, freshOf, requestOf, linesOf}

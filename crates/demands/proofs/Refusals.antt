@@ -9,7 +9,7 @@ use lib.ListN.{length}
 use borrow.Author.Tests.{eqb-true, ne-eqb, not-true}
 use Rattle.bits.specs.Bits.{if_then_else_, _is_}
 use Rattle.bits.proofs.Logic.{byCases, both}
-use Rattle.chip.specs.Chip.{Event, control, write, read, strobe, outside}
+use Rattle.events.specs.Events.{Event, control, write, read, strobe, outside}
 use Rattle.chain.specs.Chain.{asks}
 use Rattle.board.specs.declared.Board.{Board}
 use Rattle.board.specs.Board.{ports, requestOf}

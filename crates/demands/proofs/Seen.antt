@@ -10,10 +10,11 @@ use borrow.Author.Tests.{eqb-true, not-true}
 use Rattle.bits.specs.Bits.{if_then_else_, _is_}
 use Rattle.bits.proofs.Logic.{byCases}
 use Rattle.chip.specs.declared.Chip.{Chip}
-use Rattle.chip.specs.Chip.{settle, changed}
+use Rattle.chip.specs.Chip.{settle}
 use Rattle.chip.specs.Chip as chip
-use Rattle.chip.proofs.Touch.{changed-under}
 use Rattle.chip.proofs.Touch as touch
+use Rattle.events.specs.Events.{changed}
+use Rattle.events.proofs.Touch.{changed-under}
 use Rattle.chain.specs.declared.Decoder.{Decoder}
 use Rattle.chain.specs.Places.{places, adjust}
 use Rattle.chain.specs.Chain.{under, asker, asks, flat, sideOf, acknowledged, retired}

@@ -1,4 +1,3 @@
 pub mod Fields
-pub mod Words
 pub mod Rules
 pub mod Sound

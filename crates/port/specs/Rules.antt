@@ -1,6 +1,6 @@
 -- Document 01, "Data, handshake, bits", "Chain and RETI" and its reset: what each event does to one port. What depends on the
--- other port of the chip comes as a flag, which chip/specs gives: `off`, the port's own handshake is off; `acts`, the rise of this
--- strobe ends a handshake; `follows`, the input register follows the lines; `watched`, the port's own match is on.
+-- other port of the chip comes as a flag, which chip/specs and events/specs give: `off`, the port's own handshake is off; `acts`, the
+-- rise of this strobe ends a handshake; `follows`, the input register follows the lines; `watched`, the port's own match is on.
 -- Assumes nothing.
 use Prim.Native.Nat.{ℕ, _-_}
 use mathlib.Core.Bool.{Bool, true, false, _&&_, _||_, not}

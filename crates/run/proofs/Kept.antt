@@ -14,8 +14,8 @@ use Rattle.bits.specs.Bits.{if_then_else_, _is_}
 use Rattle.bits.proofs.Logic.{byCases}
 use Rattle.bits.proofs.Tests.{if-on}
 use Rattle.chip.specs.declared.Chip.{Chip}
-use Rattle.chip.specs.declared.Acted.{Acted}
 use Rattle.chip.specs.Chip as chip
+use Rattle.events.specs.declared.Acted.{Acted}
 use Rattle.chain.specs.Chain.{asker, asks, holder}
 use Rattle.chain.specs.Decode.{retiOf}
 use Rattle.chain.specs.Marks.{markOf, marksOf, callerOf, holderOf}

@@ -14,10 +14,10 @@ use Rattle.bits.specs.Bits.{if_then_else_, _is_}
 use Rattle.bits.proofs.Logic.{both}
 use Rattle.bits.proofs.Tests.{if-on}
 use Rattle.chip.specs.declared.Chip.{Chip}
-use Rattle.chip.specs.declared.Acted.{Acted}
 use Rattle.chip.specs.Chip.{side}
 use Rattle.chip.specs.Sound.{soundChip}
-use Rattle.chip.specs.Act.{eventOf, actOf}
+use Rattle.events.specs.declared.Acted.{Acted}
+use Rattle.events.specs.Act.{eventOf, actOf}
 use Rattle.chain.specs.declared.Decoder.{Decoder}
 use Rattle.chain.specs.Chain.{sideOf}
 use Rattle.chain.specs.Marks.{markOf}

@@ -9,23 +9,25 @@ use denote.Enum.Declared.{tagOf}
 use Rattle.bits.specs.Bits.{if_then_else_, _is_}
 use Rattle.bits.proofs.Logic.{both, beq-is}
 use Rattle.port.specs.Fields.{input-at, waiting-at, matched-at, ready-at, strobe-at as port-strobe-at}
-use Rattle.port.specs.Words.{heardOf, codeOf, obeyed}
 use Rattle.port.specs.Rules.{strobed, linesNow, matchNow, settled, shownOf}
 use Rattle.port.specs.Sound.{restsOf}
 use Rattle.port.specs.declared.Port.{Port}
-use Rattle.port.specs.declared.Word.{Word}
-use Rattle.port.specs.declared.Heard.{Heard}
-use Rattle.port.specs.declared.Heard.the-variants.{Said}
-use Rattle.port.specs.declared.Word.the-variants.{Vector, Mode, Interrupt, Enable, Select, Mask}
 use Rattle.port.proofs.Rest.{rests-settled}
-use Rattle.port.proofs.Heard as told
+use Rattle.words.specs.Words.{heardOf, codeOf, obeyed}
+use Rattle.words.specs.declared.Word.{Word}
+use Rattle.words.specs.declared.Heard.{Heard}
+use Rattle.words.specs.declared.Heard.the-variants.{Said}
+use Rattle.words.specs.declared.Word.the-variants.{Vector, Mode, Interrupt, Enable, Select, Mask}
+use Rattle.words.proofs.Heard as told
 use Rattle.chip.specs.declared.Chip.{Chip}
-use Rattle.chip.specs.Chip.{Side, A, B, side, port, twoWay, off, follows, acts, write, read, strobe, outside, settle, obey, changed}
+use Rattle.chip.specs.Chip.{Side, A, B, side, port, twoWay, off, follows, settle}
 use Rattle.chip.specs.Sound.{soundChip}
-use Rattle.chip.specs.Act.{eventOf, step, actOf}
 use Rattle.chip.proofs.Keep.{apart, rest-same}
-use Rattle.chip.proofs.Ways.{made, acted}
-use Rattle.chip.proofs.Ways as ways
+use Rattle.chip.proofs.Ways.{made}
+use Rattle.events.proofs.Ways as ways
+use Rattle.events.specs.Events.{acts, write, read, strobe, outside, obey, changed}
+use Rattle.events.specs.Act.{eventOf, step, actOf}
+use Rattle.events.proofs.Ways.{acted}
 use Rattle.shortcuts.specs.Follow.{following, followed}
 
 -- ---- a port whose match memory is right: settling only lets the input register follow

@@ -1,15 +1,16 @@
 // One event of kinds 3 to 7 at a chip that is sound, with no more settling than it can need: a run keeps its board sound, so each
 // kind settles only what it can have unsettled. What comes out is the chip's own event, `actOf`.
-use chip::Acted;
 use chip::Chip;
-use port::Heard;
+use events::Acted;
 use port::Port;
+use words::Heard;
 ghost use mathlib.Core.Path.{_≡_};
 ghost use mathlib.Core.Bool.{true, false};
 ghost use Rattle.bits.specs.Bits.{if_then_else_};
-ghost use Rattle.chip.specs.Chip.{side, strobe};
+ghost use Rattle.chip.specs.Chip.{side};
 ghost use Rattle.chip.specs.Sound.{soundChip};
-ghost use Rattle.chip.specs.Act.{eventOf, step, actOf};
+ghost use Rattle.events.specs.Events.{strobe};
+ghost use Rattle.events.specs.Act.{eventOf, step, actOf};
 ghost use Rattle.shortcuts.specs.Follow.{following, followed};
 
 // The port's input register takes its lines, if it follows them.
@@ -102,7 +103,7 @@ pub fn lines(c: Chip, on_b: bool, value: u8) -> Acted
 pub fn write(c: Chip, on_b: bool, value: u8) -> Acted
     ensures { λ r. ⌜ (soundChip c ≡ true → r ≡ actOf (side «on_b») (eventOf 4 value) value c) ⌝ }
 {
-    let d = chip::write_data(c, on_b, value);
+    let d = events::write_data(c, on_b, value);
     Acted {
         chip: d,
         code: 0,
@@ -115,7 +116,7 @@ pub fn read(c: Chip, on_b: bool, value: u8) -> Acted
     ensures { λ r. ⌜ (soundChip c ≡ true → r ≡ actOf (side «on_b») (eventOf 5 value) value c) ⌝ }
 {
     let p = chip::port_of(c, on_b);
-    let d = chip::read_data(c, on_b);
+    let d = events::read_data(c, on_b);
     Acted {
         chip: d,
         code: 1,
@@ -130,15 +131,15 @@ pub fn control_b(c: Chip, value: u8) -> Acted
     let a = c.a;
     let b = c.b;
     let two = a.mode == 2;
-    let h = port::hear(b.awaiting, true, value);
+    let h = words::hear(b.awaiting, true, value);
     let Heard::Said(w) = h else {
         return Acted {
             chip: c,
-            code: port::code(h),
+            code: words::code(h),
             value: value,
         };
     };
-    let q = port::obey(b, two, w);
+    let q = words::obey(b, two, w);
     let d = Chip { a: a, b: q };
     let f = chip::b_follows(d);
     Acted {
@@ -157,15 +158,15 @@ pub fn control_a(c: Chip, value: u8) -> Acted
 {
     let a = c.a;
     let b = c.b;
-    let h = port::hear(a.awaiting, false, value);
+    let h = words::hear(a.awaiting, false, value);
     let Heard::Said(w) = h else {
         return Acted {
             chip: c,
-            code: port::code(h),
+            code: words::code(h),
             value: value,
         };
     };
-    let q = port::obey(a, false, w);
+    let q = words::obey(a, false, w);
     let two = q.mode == 2;
     let mut r = b;
     r.ready = b.ready & ((a.mode == 2) == two);
