@@ -1,4 +1,5 @@
 pub mod Places
 pub mod Flat
 pub mod Marks
+pub mod Table
 pub mod Scans

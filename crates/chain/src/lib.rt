@@ -31,28 +31,18 @@ impl Decoder {
     }
 }
 
-// What the chain needs to know of a chip.
+// What the chain needs to know of a chip. A table, since a branch on bits that come and go as the lines please is dear.
 pub fn mark(c: Chip) -> u8
     ensures { λ r. ⌜ r ≡ markOf c ⌝ }
 {
     let a = c.a;
     let b = c.b;
-    if a.service {
-        return 7;
-    }
-    if a.waiting & a.live {
-        if b.service {
-            return 9;
-        }
-        return 1;
-    }
-    if b.service {
-        return 11;
-    }
-    if b.waiting & b.live {
-        return 2;
-    }
-    0
+    let marks = [0, 7, 1, 7, 11, 7, 9, 7, 2, 7, 1, 7, 11, 7, 9, 7];
+    let i = a.service as usize
+        + 2 * ((a.waiting & a.live) as usize)
+        + 4 * (b.service as usize)
+        + 8 * ((b.waiting & b.live) as usize);
+    marks[i]
 }
 
 // The place of the nearest asking port and 1, or 0 if none asks.

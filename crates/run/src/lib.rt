@@ -1,15 +1,17 @@
 // A run over many records. Document 01, "Records". The run looks the board over once and keeps its size, chips, decoder and marks in
 // locals: an event that concerns one chip moves that chip out and in, and a fetch that changes nothing touches no chip at all.
+use board::Answer;
 use board::Board;
 use chain::Decoder;
+use chip::Chip;
 ghost use mathlib.Core.Path.{_≡_};
 ghost use mathlib.Core.Bool.{true};
 ghost use Prim.Native.Nat.{_+_, _*_, _/_, _%_, _≤_};
 ghost use lib.ListN.{length, set};
 ghost use Rattle.buffers.specs.Splice.{splice};
 ghost use Rattle.board.specs.Board.{soundBoard};
-ghost use Rattle.board.specs.Halves.{lookOf, signalOf};
-ghost use Rattle.run.specs.Fast.{passesOf};
+ghost use Rattle.board.specs.Halves.{lookOf, signalOf, planOf};
+ghost use Rattle.run.specs.Fast.{idlesOf, turnedOf};
 ghost use Rattle.run.specs.Run.{records, stepsOf, answersOf, refusalOf, ranOf, bufferOf};
 
 // The board after a run, its code, and the number of records.
@@ -17,6 +19,16 @@ pub struct Ran {
     pub code: u8,
     pub records: usize,
     pub board: Board,
+}
+
+// What a record can change, and its answer.
+struct Turned {
+    chips: [Chip; 4],
+    decoder: Decoder,
+    marks: [u8; 4],
+    due: bool,
+    request: u8,
+    answer: Answer,
 }
 
 // The run's refusal, or 0, which says that there is room. No sum is formed that could be too large.
@@ -39,11 +51,16 @@ fn refusal(sound: bool, events: usize, room: usize, start: usize) -> u8
     0
 }
 
-// Whether a fetch changes the decoder alone.
-fn passes(decoder: Decoder, due: bool, place: u8, value: u8, last: u8) -> bool
-    ensures { λ r. ⌜ r ≡ passesOf decoder due place value last ⌝ }
+// Whether record i is there and is a fetch that changes the decoder alone.
+fn idles(events: &[u8], i: usize, decoder: Decoder, due: bool) -> bool
+    ensures { λ r. ⌜ r ≡ idlesOf decoder due (now (events .entry)) i ⌝ }
 {
-    (place == 0) & (last == 0) & !due & !decoder.reti(value)
+    if i >= events.len() / 4 {
+        return false;
+    }
+    let at = 4 * i;
+    let value = events[at + 2];
+    (events[at] == 1) & (events[at + 1] == 0) & (events[at + 3] == 0) & !due & !decoder.reti(value)
 }
 
 // The request after the chip `k` has the mark `mark`.
@@ -59,6 +76,67 @@ fn renewed(marks: [u8; 4], k: usize, mark: u8, request: u8) -> u8
     let mut next = marks;
     next[k] = mark;
     board::signal(next)
+}
+
+// A record by the two halves of the step.
+fn turn(
+    size: u8,
+    chips: [Chip; 4],
+    decoder: Decoder,
+    marks: [u8; 4],
+    due: bool,
+    request: u8,
+    event: &[u8],
+) -> Turned
+    ensures { λ r. ⌜ r ≡ turnedOf size chips due request marks (planOf size decoder marks due request (now (event .entry))) ⌝ }
+{
+    let w = board::step_reads(size, decoder, marks, due, request, event);
+    let next = w.decoder;
+    if w.whole {
+        let s = board::step_chips(size, chips, w);
+        let all = s.chips;
+        let ms = s.marks;
+        let a = s.answer;
+        return Turned {
+            chips: all,
+            decoder: next,
+            marks: ms,
+            due: false,
+            request: a.request,
+            answer: a,
+        };
+    }
+    if !w.one {
+        return Turned {
+            chips: chips,
+            decoder: next,
+            marks: marks,
+            due: due,
+            request: request,
+            answer: Answer {
+                code: w.code,
+                place: w.place,
+                value: w.value,
+                request: w.request,
+            },
+        };
+    }
+    let k = w.chip;
+    let c = chips[k];
+    let r = board::step_chip(c, w);
+    let d = r.chip;
+    let mut all = chips;
+    all[k] = d;
+    let ms = r.marks;
+    let a = r.answer;
+    Turned {
+        chips: all,
+        decoder: next,
+        marks: ms,
+        due: due | r.due,
+        request: a.request,
+        answer: a,
+    }
 }
 
 // All the records, on a sound board with room for their answers; `seen` is a look at the board.
@@ -84,6 +162,17 @@ fn run_records(
     let mut due = seen.due;
     let mut i: usize = 0;
     while i < n {
+        // Fetches that change the decoder alone, as long as there are such.
+        while idles(events, i, decoder, due) {
+            let value = events[4 * i + 2];
+            let to = 4 * (start + i);
+            i += 1;
+            decoder = decoder.next(value);
+            buffers::put_record(&mut answers[to..], 0, 0, value, request);
+        }
+        if i >= n {
+            break;
+        }
         let at = 4 * i;
         let to = 4 * (start + i);
         let kind = events[at];
@@ -91,14 +180,7 @@ fn run_records(
         let value = events[at + 2];
         let last = events[at + 3];
         i += 1;
-        // The short ways first: a fetch that changes the decoder alone, and an event of kinds 3 to 7 that no early refusal stops.
-        if kind == 1 {
-            if passes(decoder, due, place, value, last) {
-                decoder = decoder.next(value);
-                buffers::put_record(&mut answers[to..], 0, 0, value, request);
-                continue;
-            }
-        }
+        // An event of kinds 3 to 7 that no early refusal stops: each kind changes its chip where it lies.
         if kind >= 3 {
             if board::early_refusal(size, kind, place, value, last) == 0 {
                 let k = (place / 2 % 4) as usize;
@@ -166,46 +248,25 @@ fn run_records(
             }
         }
         // All else goes through the two halves of the step.
-        let w = board::step_reads(size, decoder, marks, due, request, &events[at..at + 4]);
-        let d = w.decoder;
-        decoder = d;
-        if w.whole {
-            let s = board::step_chips(size, chips, w);
-            let all = s.chips;
-            chips = all;
-            let ms = s.marks;
-            marks = ms;
-            request = s.answer.request;
-            due = false;
-            buffers::put_record(
-                &mut answers[to..],
-                s.answer.code,
-                s.answer.place,
-                s.answer.value,
-                s.answer.request,
-            );
-            continue;
-        }
-        if !w.one {
-            buffers::put_record(&mut answers[to..], w.code, w.place, w.value, w.request);
-            continue;
-        }
-        let k = w.chip;
-        let c = chips[k];
-        let r = board::step_chip(c, w);
-        let m = r.chip;
-        chips[k] = m;
-        let ms = r.marks;
-        marks = ms;
-        request = r.answer.request;
-        due = due | r.due;
-        buffers::put_record(
-            &mut answers[to..],
-            r.answer.code,
-            r.answer.place,
-            r.answer.value,
-            r.answer.request,
+        let t = turn(
+            size,
+            chips,
+            decoder,
+            marks,
+            due,
+            request,
+            &events[at..at + 4],
         );
+        let all = t.chips;
+        chips = all;
+        let d = t.decoder;
+        decoder = d;
+        let ms = t.marks;
+        marks = ms;
+        due = t.due;
+        request = t.request;
+        let a = t.answer;
+        buffers::put_record(&mut answers[to..], a.code, a.place, a.value, a.request);
     }
     Board {
         size: size,

@@ -1,0 +1,47 @@
+-- The table of marks, by the four bits of a chip that they are made of.
+-- Assumes nothing.
+use mathlib.Core.Path.{_≡_, refl}
+use mathlib.Core.Bool.{Bool, true, false}
+use mathlib.Core.List.{List, [], _∷_}
+use Prim.Native.Nat.{ℕ, _+_, _*_, _≤_}
+use native.Mathlib.Omega.{arith}
+use lib.ListN.{getD}
+use mir.Val.{boolByte}
+use Rattle.bits.specs.Bits.{if_then_else_}
+use Rattle.chip.specs.declared.Chip.{Chip}
+use Rattle.chain.specs.Chain.{ready, under}
+use Rattle.chain.specs.Marks.{markOf}
+
+small : (b : Bool) → boolByte b ≤ 1
+small true = omega arith
+small false = omega arith
+
+pub bits : (c : Chip) → (boolByte (under (c .a)) ≤ 1) × (boolByte (ready (c .a)) ≤ 1) × (boolByte (under (c .b)) ≤ 1) × (boolByte (ready (c .b)) ≤ 1)
+bits c = (small (under (c .a)), small (ready (c .a)), small (under (c .b)), small (ready (c .b)))
+
+abbrev pub table : List ℕ
+table = 0 ∷ 7 ∷ 1 ∷ 7 ∷ 11 ∷ 7 ∷ 9 ∷ 7 ∷ 2 ∷ 7 ∷ 1 ∷ 7 ∷ 11 ∷ 7 ∷ 9 ∷ 7 ∷ []
+
+by-bits : (x y z u : Bool) → getD table (boolByte x + 2 * boolByte y + 4 * boolByte z + 8 * boolByte u) 0
+    ≡ (if x then 3 else if y then 1 else if z then 3 else if u then 2 else 0) + 4 * (if x then 1 else if z then 2 else 0)
+unfolding if_then_else_
+by-bits true true true true = refl
+by-bits true true true false = refl
+by-bits true true false true = refl
+by-bits true true false false = refl
+by-bits true false true true = refl
+by-bits true false true false = refl
+by-bits true false false true = refl
+by-bits true false false false = refl
+by-bits false true true true = refl
+by-bits false true true false = refl
+by-bits false true false true = refl
+by-bits false true false false = refl
+by-bits false false true true = refl
+by-bits false false true false = refl
+by-bits false false false true = refl
+by-bits false false false false = refl
+
+pub mark-is : (c : Chip) → getD table (boolByte (under (c .a)) + 2 * boolByte (ready (c .a)) + 4 * boolByte (under (c .b)) + 8 * boolByte (ready (c .b))) 0 ≡ markOf c
+unfolding markOf
+mark-is c = by-bits (under (c .a)) (ready (c .a)) (under (c .b)) (ready (c .b))
