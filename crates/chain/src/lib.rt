@@ -2,9 +2,9 @@
 // knows of modes: a port is live, waits, is under service.
 use chip::Chip;
 ghost use mathlib.Core.Path.{_≡_};
-ghost use Prim.Native.Nat.{_≤_};
+ghost use Prim.Native.Nat.{_≤_, _<_};
 ghost use Rattle.chain.specs.Decode.{nextOf, retiOf};
-ghost use Rattle.chain.specs.Marks.{markOf, callerOf, holderOf};
+ghost use Rattle.chain.specs.Marks.{markOf, numberOf, callerOf, holderOf};
 
 // The decoder's small memory: 0 nothing, 1 an ED was fetched last and opened.
 #[repr(C)]
@@ -31,6 +31,13 @@ impl Decoder {
     }
 }
 
+// The number that four bits spell.
+fn number(x: bool, y: bool, z: bool, u: bool) -> usize
+    ensures { λ r. ⌜ (r ≡ numberOf x y z u) × (r < 16) ⌝ }
+{
+    x as usize + 2 * (y as usize) + 4 * (z as usize) + 8 * (u as usize)
+}
+
 // What the chain needs to know of a chip. A table, since a branch on bits that come and go as the lines please is dear.
 pub fn mark(c: Chip) -> u8
     ensures { λ r. ⌜ r ≡ markOf c ⌝ }
@@ -38,10 +45,7 @@ pub fn mark(c: Chip) -> u8
     let a = c.a;
     let b = c.b;
     let marks = [0, 7, 1, 7, 11, 7, 9, 7, 2, 7, 1, 7, 11, 7, 9, 7];
-    let i = a.service as usize
-        + 2 * ((a.waiting & a.live) as usize)
-        + 4 * (b.service as usize)
-        + 8 * ((b.waiting & b.live) as usize);
+    let i = number(a.service, a.waiting & a.live, b.service, b.waiting & b.live);
     marks[i]
 }
 

@@ -1,20 +1,17 @@
 -- The three ways of a record through the loop, each a turn of the run that keeps what the locals keep.
 -- Assumes nothing.
-use mathlib.Core.Path.{_≡_, refl, sym, ap, subst, _∙_}
+use mathlib.Core.Path.{_≡_, sym, ap, _∙_}
 use mathlib.Core.Bool.{Bool, true, false, _||_, not}
 use mathlib.Core.List.{List, [], _∷_}
 use Prim.Native.Nat.{ℕ, _+_, _-_, _*_, _/_, _%_, _≤_, _<_}
 use native.Mathlib.Nat.{add-sub-cancel-left}
 use native.Mathlib.Omega.{arith}
 use lib.Dec.{ltb}
-use lib.ListN.{length, take, drop, getD, set}
+use lib.ListN.{length, take, drop, getD}
 use lib.Seq.{getD-take, getD-drop}
 use borrow.Author.Tests.{lt-ltb, eq-eqb, ne-eqb, le-ltb}
 use Rattle.bits.specs.Bits.{if_then_else_}
-use Rattle.bits.proofs.Logic.{byCases}
-use Rattle.bits.proofs.Tests.{if-on, if-off}
 use Rattle.buffers.specs.Splice.{splice}
-use Rattle.chip.specs.declared.Chip.{Chip}
 use Rattle.board.specs.declared.Board.{Board}
 use Rattle.board.specs.declared.Answer.{Answer}
 use Rattle.board.specs.declared.Look.{Look}
@@ -22,13 +19,11 @@ use Rattle.board.specs.declared.Plan.{Plan}
 use Rattle.board.specs.declared.Changed.{Changed}
 use Rattle.board.specs.declared.Swept.{Swept}
 use Rattle.board.specs.Board.{most, there, soundBoard}
-use Rattle.board.specs.Step.{valueOf, answer}
+use Rattle.board.specs.Step.{valueOf}
 use Rattle.board.specs.Halves.{lookOf, signalOf, planOf, changedOf, blank, sweptOf, wholly, singly, idly}
 use Rattle.board.proofs.Ways.{off, on}
 use Rattle.board.proofs.Steps.{quiet}
 use Rattle.run.specs.declared.Ran.{Ran}
-use Rattle.run.specs.declared.Turned.{Turned}
-use Rattle.run.specs.Fast.{turnedOf}
 use Rattle.run.specs.Run.{records, stepsOf, answersOf, bytesOf, refusalOf, ranOf, bufferOf}
 use Rattle.run.proofs.Turns.{Running, turn}
 use Rattle.run.proofs.Kept.{Kept, whole-steps, whole-keeps, idle-steps, idle-keeps, single-steps, single-keeps}
@@ -121,47 +116,6 @@ module _ {es old : List ℕ} {start : ℕ} {b₀ : Board} {n : ℕ} {out : List 
     turn es old start b₀ n (singly b w r) out′ (g .running) (g .more) (g .events) (g .room) (single-steps b marks request due (g .kept) event small w asks r t e) o,
     single-keeps b marks request due (g .kept) event small w asks r t (on (w .one) u) e,
   )
-
-module _ {es old : List ℕ} {start : ℕ} {b₀ : Board} {n : ℕ} {out : List ℕ} {b : Board} {marks : List ℕ} {request : ℕ} {due : Bool} {i : ℕ}
-    (g : Going es old start b₀ n out b marks request due i) where
-  abbrev Turns : List ℕ → Turned → Type 0
-  Turns out′ t = out′ ≡ splice out (4 * (start + i)) (four (t .answer))
-      → Running es old start b₀ n out′ (record { size = b .size; chips = t .chips; decoder = t .decoder }) (i + 1)
-      × Kept (record { size = b .size; chips = t .chips; decoder = t .decoder }) (t .marks) (t .request) (t .due)
-
-  abbrev w : Plan
-  w = planOf (b .size) (b .decoder) marks due request (take (4 * i + 4 - 4 * i) (drop (4 * i) es))
-
-  pub rest-turn : (t : Turned) (out′ : List ℕ) → t ≡ turnedOf (b .size) (b .chips) due request marks w → Turns out′ t
-  unfolding turnedOf
-  rest-turn t out′ h =
-      byCases (w .whole)
-      (λ e. subst (Turns out′) (sym (h ∙ if-on (w .whole) _ _ e)) (whole-turn g w refl (sweptOf (b .size) (b .chips) w) out′ e refl))
-      (λ e.
-      byCases (not (w .one))
-      (λ f. subst (Turns out′) (sym (h ∙ if-off (w .whole) _ _ e ∙ if-on (not (w .one)) _ _ f)) (idle-turn g w refl out′ e f))
-      (λ f.
-      subst (Turns out′) (sym (h ∙ if-off (w .whole) _ _ e ∙ if-off (not (w .one)) _ _ f))
-      (single-turn g w refl (changedOf (getD (b .chips) (w .chip) blank) w) out′ e f refl)))
-
--- ---- the three ways out of `turn`
-module _ (n : ℕ) (cs : List Chip) (due : Bool) (request : ℕ) (marks : List ℕ) (w p : Plan) (i : w ≡ p) where
-  pub turned-whole : (s : Swept) → w .whole ≡ true → s ≡ sweptOf n cs w
-      → _≡_ {A = Turned} (record { chips = s .chips; decoder = w .decoder; marks = s .marks; due = false; request = s .answer .request; answer = s .answer }) (turnedOf n cs due request marks p)
-  unfolding turnedOf if_then_else_
-  turned-whole s t e = rw (← i, e, t)
-
-  pub turned-idle : w .whole ≡ false → not (w .one) ≡ true
-      → _≡_ {A = Turned} (record { chips = cs; decoder = w .decoder; marks = marks; due = due; request = request; answer = answer (w .code) (w .place) (w .value) (w .request) })
-      (turnedOf n cs due request marks p)
-  unfolding turnedOf if_then_else_
-  turned-idle t u = rw (← i, t, u)
-
-  pub turned-single : (r : Changed) → w .whole ≡ false → not (w .one) ≡ false → r ≡ changedOf (getD cs (w .chip) blank) w
-      → _≡_ {A = Turned} (record { chips = set cs (w .chip) (r .chip); decoder = w .decoder; marks = r .marks; due = due || r .due; request = r .answer .request; answer = r .answer })
-      (turnedOf n cs due request marks p)
-  unfolding turnedOf
-  turned-single r t u e = rw (← i, e) (sym (if-off (w .whole) _ _ t ∙ if-off (not (w .one)) _ _ u))
 
 -- ---- the ways out of `run`
 pub sound-is : (b : Board) (l : Look) → l ≡ lookOf (b .size) (b .chips) → l .sound ≡ soundBoard b

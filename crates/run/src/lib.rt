@@ -1,17 +1,15 @@
 // A run over many records. Document 01, "Records". The run looks the board over once and keeps its size, chips, decoder and marks in
 // locals: an event that concerns one chip moves that chip out and in, and a fetch that changes nothing touches no chip at all.
-use board::Answer;
 use board::Board;
 use chain::Decoder;
-use chip::Chip;
 ghost use mathlib.Core.Path.{_≡_};
 ghost use mathlib.Core.Bool.{true};
 ghost use Prim.Native.Nat.{_+_, _*_, _/_, _%_, _≤_};
 ghost use lib.ListN.{length, set};
 ghost use Rattle.buffers.specs.Splice.{splice};
 ghost use Rattle.board.specs.Board.{soundBoard};
-ghost use Rattle.board.specs.Halves.{lookOf, signalOf, planOf};
-ghost use Rattle.run.specs.Fast.{idlesOf, turnedOf};
+ghost use Rattle.board.specs.Halves.{lookOf, signalOf};
+ghost use Rattle.run.specs.Fast.{idlesOf};
 ghost use Rattle.run.specs.Run.{records, stepsOf, answersOf, refusalOf, ranOf, bufferOf};
 
 // The board after a run, its code, and the number of records.
@@ -19,16 +17,6 @@ pub struct Ran {
     pub code: u8,
     pub records: usize,
     pub board: Board,
-}
-
-// What a record can change, and its answer.
-struct Turned {
-    chips: [Chip; 4],
-    decoder: Decoder,
-    marks: [u8; 4],
-    due: bool,
-    request: u8,
-    answer: Answer,
 }
 
 // The run's refusal, or 0, which says that there is room. No sum is formed that could be too large.
@@ -76,67 +64,6 @@ fn renewed(marks: [u8; 4], k: usize, mark: u8, request: u8) -> u8
     let mut next = marks;
     next[k] = mark;
     board::signal(next)
-}
-
-// A record by the two halves of the step.
-fn turn(
-    size: u8,
-    chips: [Chip; 4],
-    decoder: Decoder,
-    marks: [u8; 4],
-    due: bool,
-    request: u8,
-    event: &[u8],
-) -> Turned
-    ensures { λ r. ⌜ r ≡ turnedOf size chips due request marks (planOf size decoder marks due request (now (event .entry))) ⌝ }
-{
-    let w = board::step_reads(size, decoder, marks, due, request, event);
-    let next = w.decoder;
-    if w.whole {
-        let s = board::step_chips(size, chips, w);
-        let all = s.chips;
-        let ms = s.marks;
-        let a = s.answer;
-        return Turned {
-            chips: all,
-            decoder: next,
-            marks: ms,
-            due: false,
-            request: a.request,
-            answer: a,
-        };
-    }
-    if !w.one {
-        return Turned {
-            chips: chips,
-            decoder: next,
-            marks: marks,
-            due: due,
-            request: request,
-            answer: Answer {
-                code: w.code,
-                place: w.place,
-                value: w.value,
-                request: w.request,
-            },
-        };
-    }
-    let k = w.chip;
-    let c = chips[k];
-    let r = board::step_chip(c, w);
-    let d = r.chip;
-    let mut all = chips;
-    all[k] = d;
-    let ms = r.marks;
-    let a = r.answer;
-    Turned {
-        chips: all,
-        decoder: next,
-        marks: ms,
-        due: due | r.due,
-        request: a.request,
-        answer: a,
-    }
 }
 
 // All the records, on a sound board with room for their answers; `seen` is a look at the board.
@@ -248,24 +175,35 @@ fn run_records(
             }
         }
         // All else goes through the two halves of the step.
-        let t = turn(
-            size,
-            chips,
-            decoder,
-            marks,
-            due,
-            request,
-            &events[at..at + 4],
-        );
-        let all = t.chips;
-        chips = all;
-        let d = t.decoder;
-        decoder = d;
-        let ms = t.marks;
+        let w = board::step_reads(size, decoder, marks, due, request, &events[at..at + 4]);
+        let next = w.decoder;
+        decoder = next;
+        if w.whole {
+            let s = board::step_chips(size, chips, w);
+            let all = s.chips;
+            chips = all;
+            let ms = s.marks;
+            marks = ms;
+            request = s.answer.request;
+            due = false;
+            let a = s.answer;
+            buffers::put_record(&mut answers[to..], a.code, a.place, a.value, a.request);
+            continue;
+        }
+        if !w.one {
+            buffers::put_record(&mut answers[to..], w.code, w.place, w.value, w.request);
+            continue;
+        }
+        let k = w.chip;
+        let c = chips[k];
+        let r = board::step_chip(c, w);
+        let d = r.chip;
+        chips[k] = d;
+        let ms = r.marks;
         marks = ms;
-        due = t.due;
-        request = t.request;
-        let a = t.answer;
+        request = r.answer.request;
+        due = due | r.due;
+        let a = r.answer;
         buffers::put_record(&mut answers[to..], a.code, a.place, a.value, a.request);
     }
     Board {

@@ -2,7 +2,7 @@
 -- Assumes nothing.
 use native.Mathlib.Omega.{arith}
 use borrow.Author.Needs.{needs}
-use Rattle.chain.proofs.Table.{bits, mark-is}
+use Rattle.chain.proofs.Table.{mark-is}
 use Rattle.chain.proofs.mark.Statement.{statement}
 use Rattle.chain.proofs.mark.Tie as tie
 
@@ -10,15 +10,6 @@ pub mark-spec : {M : Type 1} → statement M
 mark-spec =
     tie.close
     (tie.spec
-    (λ c. search needs)
-    (λ c. search needs)
-    (λ c. omega (arith, bits (c .before .before .before .before .args .c)))
-    (λ c. omega (arith, bits (c .before .before .before .before .args .c)))
-    (λ c. search needs)
-    (λ c. omega (arith, bits (c .before .before .before .before .before .args .c)))
-    (λ c. omega (arith, bits (c .before .before .before .before .before .args .c)))
-    (λ c. search needs)
-    (λ c. omega (arith, bits (c .before .before .before .before .before .before .args .c)))
-    (λ c. omega (arith, bits (c .before .before .before .before .before .before .args .c)))
-    (λ c. omega (arith, bits (c .before .before .before .before .before .before .args .c)))
-    (λ c. mark-is _))
+    (λ c κs. search needs)
+    (λ c. omega (arith, c .number .ensures .1))
+    (λ c. mark-is _ _ (c .number .ensures .0)))

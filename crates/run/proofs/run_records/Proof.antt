@@ -11,7 +11,7 @@ use Rattle.buffers.proofs.Splices.{room-rest}
 use Rattle.board.specs.declared.Board.{Board}
 use Rattle.run.proofs.Turns.{Running, begin, done}
 use Rattle.run.proofs.Kept.{Kept}
-use Rattle.run.proofs.Ways.{Going, kept-begins, rest-turn}
+use Rattle.run.proofs.Ways.{Going, kept-begins, whole-turn, idle-turn, single-turn}
 use Rattle.run.proofs.Fast.{Passed, none-passed, one-passed, idle-there}
 use Rattle.run.proofs.Places.{Acts, by-kind, by-side, by-rest, act-turn}
 use Rattle.run.proofs.run_records.Statement.{statement}
@@ -98,8 +98,18 @@ loop-again c =
 
 loop-again-2 : tie.Need-loop-again-2 Inv-loop2 μ-loop2 Inv-loop μ-loop
 loop-again-2 c =
-    rest-turn (going (c .before .before .before .before .before .before .before .before .before .before .before .before .before .before .before .before .before .before) (c .before .before .before .before .before .before .before .before .before .before .before .before .before .before .before .if2 .left)) (c .before .before .before .before .before .before .before .before .turn .result) _ (c .before .before .before .before .before .before .before .before .turn .ensures)
-    (room-rest _ _ 4 _ _ (answer-fits (c .before .before .before .before .before .before .before .before .before .before .before .before .before .before .before .before .before .before) (c .before .before .before .before .before .before .before .before .before .before .before .before .before .before .before .if2 .left)) (omega arith) (c .before .before .put-record3 .ensures .1))
+    whole-turn (going (c .before .before .before .before .before .before .before .before .before .before .before .before .before .before .before .before .before .before .before .before) (c .before .before .before .before .before .before .before .before .before .before .before .before .before .before .before .before .before .if2 .left)) (c .before .before .before .before .before .before .before .before .before .before .step-reads .result) (c .before .before .before .before .before .before .before .before .before .before .step-reads .ensures .0) (c .before .before .before .before .before .before .before .step-chips .result) _ (c .before .before .before .before .before .before .before .before .if6 .taken) (c .before .before .before .before .before .before .before .step-chips .ensures)
+    (room-rest _ _ 4 _ _ (answer-fits (c .before .before .before .before .before .before .before .before .before .before .before .before .before .before .before .before .before .before .before .before) (c .before .before .before .before .before .before .before .before .before .before .before .before .before .before .before .before .before .if2 .left)) (omega arith) (c .before .before .put-record3 .ensures .1))
+
+loop-again-3 : tie.Need-loop-again-3 Inv-loop2 μ-loop2 Inv-loop μ-loop
+loop-again-3 c =
+    idle-turn (going (c .before .before .before .before .before .before .before .before .before .before .before .before .before .before .before .before .before .before) (c .before .before .before .before .before .before .before .before .before .before .before .before .before .before .before .if2 .left)) (c .before .before .before .before .before .before .before .before .step-reads .result) (c .before .before .before .before .before .before .before .before .step-reads .ensures .0) _ (c .before .before .before .before .before .before .if6 .left) (c .before .before .before .before .if7 .taken)
+    (room-rest _ _ 4 _ _ (answer-fits (c .before .before .before .before .before .before .before .before .before .before .before .before .before .before .before .before .before .before) (c .before .before .before .before .before .before .before .before .before .before .before .before .before .before .before .if2 .left)) (omega arith) (c .before .before .put-record4 .ensures .1))
+
+loop-again-4 : tie.Need-loop-again-4 Inv-loop2 μ-loop2 Inv-loop μ-loop
+loop-again-4 c =
+    single-turn (going (c .before .before .before .before .before .before .before .before .before .before .before .before .before .before .before .before .before .before .before .before .before .before .before .before) (c .before .before .before .before .before .before .before .before .before .before .before .before .before .before .before .before .before .before .before .before .before .if2 .left)) (c .before .before .before .before .before .before .before .before .before .before .before .before .before .before .step-reads .result) (c .before .before .before .before .before .before .before .before .before .before .before .before .before .before .step-reads .ensures .0) (c .before .before .before .before .before .before .before .before .step-chip .result) _ (c .before .before .before .before .before .before .before .before .before .before .before .before .if6 .left) (c .before .before .before .before .before .before .before .before .before .before .if7 .left) (c .before .before .before .before .before .before .before .before .step-chip .ensures)
+    (room-rest _ _ 4 _ _ (answer-fits (c .before .before .before .before .before .before .before .before .before .before .before .before .before .before .before .before .before .before .before .before .before .before .before .before) (c .before .before .before .before .before .before .before .before .before .before .before .before .before .before .before .before .before .before .before .before .before .if2 .left)) (omega arith) (c .before .before .put-record5 .ensures .1))
 
 -- ---- the end of the records: at the outer loop's test, or after idle fetches
 returns : tie.Need-returns Inv-loop2 μ-loop2 Inv-loop μ-loop
@@ -199,12 +209,30 @@ run-records-spec =
     (λ c. omega (arith, event-there (c .before .before .before .before .before .before .before .before) (c .before .before .before .before .before .if2 .left), room (c .before .before .before .before .before .before .before .before)))
     (λ c. omega (arith, event-there (c .before .before .before .before .before .before .before .before) (c .before .before .before .before .before .if2 .left), room (c .before .before .before .before .before .before .before .before)))
     (λ c κs. search needs)
+    (λ c κs. search needs)
+    (λ c. omega (arith, answer-fits (c .before .before .before .before .before .before .before .before .before .before .before .before .before .before .before .before) (c .before .before .before .before .before .before .before .before .before .before .before .before .before .if2 .left)))
+    (λ c. omega (arith, answer-fits (c .before .before .before .before .before .before .before .before .before .before .before .before .before .before .before .before) (c .before .before .before .before .before .before .before .before .before .before .before .before .before .if2 .left)))
+    (λ c. omega (arith, answer-fits (c .before .before .before .before .before .before .before .before .before .before .before .before .before .before .before .before) (c .before .before .before .before .before .before .before .before .before .before .before .before .before .if2 .left)))
+    (λ c κs. search needs)
+    (λ c. omega (arith, c .before .before .before .before .before .before .before .before .before .before .before .before .before .before .before .before .before .if2 .left, c .before .before .before .before .before .before .before .before .before .before .before .before .before .before .before .before .before .before .before .before .loop2 .inv .on))
+    loop-again-2
     (λ c. omega (arith, answer-fits (c .before .before .before .before .before .before .before .before .before .before .before .before .before .before) (c .before .before .before .before .before .before .before .before .before .before .before .if2 .left)))
     (λ c. omega (arith, answer-fits (c .before .before .before .before .before .before .before .before .before .before .before .before .before .before) (c .before .before .before .before .before .before .before .before .before .before .before .if2 .left)))
     (λ c. omega (arith, answer-fits (c .before .before .before .before .before .before .before .before .before .before .before .before .before .before) (c .before .before .before .before .before .before .before .before .before .before .before .if2 .left)))
     (λ c κs. search needs)
     (λ c. omega (arith, c .before .before .before .before .before .before .before .before .before .before .before .before .before .before .before .if2 .left, c .before .before .before .before .before .before .before .before .before .before .before .before .before .before .before .before .before .before .loop2 .inv .on))
-    loop-again-2
+    loop-again-3
+    (λ c. omega (arith, c .before .before .before .before .step-reads .ensures .1))
+    (λ c. search needs)
+    (λ c κs. search needs)
+    (λ c. omega (arith, c .before .before .before .before .before .before .before .step-reads .ensures .1))
+    (λ c. search needs)
+    (λ c. omega (arith, answer-fits (c .before .before .before .before .before .before .before .before .before .before .before .before .before .before .before .before .before .before .before .before) (c .before .before .before .before .before .before .before .before .before .before .before .before .before .before .before .before .before .if2 .left)))
+    (λ c. omega (arith, answer-fits (c .before .before .before .before .before .before .before .before .before .before .before .before .before .before .before .before .before .before .before .before) (c .before .before .before .before .before .before .before .before .before .before .before .before .before .before .before .before .before .if2 .left)))
+    (λ c. omega (arith, answer-fits (c .before .before .before .before .before .before .before .before .before .before .before .before .before .before .before .before .before .before .before .before) (c .before .before .before .before .before .before .before .before .before .before .before .before .before .before .before .before .before .if2 .left)))
+    (λ c κs. search needs)
+    (λ c. omega (arith, c .before .before .before .before .before .before .before .before .before .before .before .before .before .before .before .before .before .before .before .before .before .if2 .left, c .before .before .before .before .before .before .before .before .before .before .before .before .before .before .before .before .before .before .before .before .before .before .before .before .loop2 .inv .on))
+    loop-again-4
     (λ c. c .before .loop .inv .0 .long)
     returns
     (λ c. now-running (c .before .before .before) .0 .long)
