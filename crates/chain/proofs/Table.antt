@@ -10,7 +10,11 @@ use mir.Val.{boolByte}
 use Rattle.bits.specs.Bits.{if_then_else_}
 use Rattle.chip.specs.declared.Chip.{Chip}
 use Rattle.chain.specs.Chain.{ready, under}
-use Rattle.chain.specs.Marks.{markOf, numberOf}
+use Rattle.chain.specs.Marks.{markOf}
+
+-- the number that four bits spell, as the table's index
+abbrev numberOf : Bool → Bool → Bool → Bool → ℕ
+numberOf x y z u = (if x then 1 else 0) + (if y then 2 else 0) + (if z then 4 else 0) + (if u then 8 else 0)
 
 pub small : (b : Bool) → boolByte b ≤ 1
 small true = omega arith

@@ -2,7 +2,6 @@
 -- laws in proofs/Marks.antt say that the answers are those of Chain.antt.
 -- Assumes nothing.
 use Prim.Native.Nat.{ℕ, zero, suc, _+_, _*_, _/_, _%_}
-use mathlib.Core.Bool.{Bool}
 use mathlib.Core.List.{List, [], _∷_}
 use Rattle.bits.specs.Bits.{if_then_else_, _is_}
 use Rattle.chip.specs.declared.Chip.{Chip}
@@ -26,10 +25,6 @@ heldOf c =
 
 unfoldable pub markOf : Chip → ℕ
 markOf c = metOf c + 4 * heldOf c
-
--- the number that four bits spell
-abbrev pub numberOf : Bool → Bool → Bool → Bool → ℕ
-numberOf x y z u = (if x then 1 else 0) + (if y then 2 else 0) + (if z then 4 else 0) + (if u then 8 else 0)
 
 -- the marks of the first n chips of a row, 0 for the others
 abbrev pub marksOf : ℕ → List Chip → List ℕ

@@ -2,9 +2,10 @@
 // knows of modes: a port is live, waits, is under service.
 use chip::Chip;
 ghost use mathlib.Core.Path.{_≡_};
-ghost use Prim.Native.Nat.{_≤_, _<_};
+ghost use Prim.Native.Nat.{_+_, _≤_, _<_};
+ghost use Rattle.bits.specs.Bits.{if_then_else_};
 ghost use Rattle.chain.specs.Decode.{nextOf, retiOf};
-ghost use Rattle.chain.specs.Marks.{markOf, numberOf, callerOf, holderOf};
+ghost use Rattle.chain.specs.Marks.{markOf, callerOf, holderOf};
 
 // The decoder's small memory: 0 nothing, 1 an ED was fetched last and opened.
 #[repr(C)]
@@ -33,7 +34,7 @@ impl Decoder {
 
 // The number that four bits spell.
 fn number(x: bool, y: bool, z: bool, u: bool) -> usize
-    ensures { λ r. ⌜ (r ≡ numberOf x y z u) × (r < 16) ⌝ }
+    ensures { λ r. ⌜ (r ≡ (if x then 1 else 0) + (if y then 2 else 0) + (if z then 4 else 0) + (if u then 8 else 0)) × (r < 16) ⌝ }
 {
     x as usize + 2 * (y as usize) + 4 * (z as usize) + 8 * (u as usize)
 }
