@@ -16,7 +16,8 @@ use Rattle.board.specs.declared.Board.{Board}
 use Rattle.board.specs.Board.{soundBoard}
 use Rattle.board.specs.Step.{Line, lines, refusal, refused, stepOf}
 use Rattle.run.specs.declared.Ran.{Ran}
-use Rattle.run.specs.Run.{records, bytesOf, stepsOf, answersOf, runLines, refusalOf, runRefusal, ranOf, bufferOf}
+use Rattle.records.specs.Records.{records, bytesOf, stepsOf, answersOf}
+use Rattle.run.specs.Run.{runLines, refusalOf, runRefusal, ranOf, bufferOf}
 use Rattle.demands.specs.Words.{stepCodes, runCodes, listed, decides}
 use Rattle.demands.specs.Demands.{Answered, FourBytes, NotFourBytes, AnsweredRun, EveryRun}
 use Rattle.demands.proofs.Refusals.{verdict-each, verdict-decides, verdict-none, step-refused, accepted-code, refused-code, refused-each}

@@ -10,7 +10,7 @@ use Rattle.chain.specs.Chain.{acknowledged, retired}
 use Rattle.chain.specs.Decode.{nextOf, retiOf}
 use Rattle.board.specs.Board.{soundBoard, freshOf, requestOf, linesOf}
 use Rattle.board.specs.Step.{refusal, doingOf, taken, accepted, refused, stepOf}
-use Rattle.run.specs.Run.{records, bytesOf, stepsOf, answersOf}
+use Rattle.records.specs.Records.{records, bytesOf, stepsOf, answersOf}
 use Rattle.demands.specs.Demands.{OnlyOne, OnlyPair, SessionsHold}
 
 pub only-one : {X R : Type 0} → OnlyOne X R

@@ -26,7 +26,7 @@ use Rattle.board.specs.Step.{valueOf, refusal, doingOf, fetch, taken, accepted,
 use Rattle.board.specs.Step as step
 use Rattle.board.proofs.There.{after-length, there-taken}
 use Rattle.board.proofs.Quick.{after-quick, parts, step-sound}
-use Rattle.run.specs.Run.{bytesOf, stepsOf}
+use Rattle.records.specs.Records.{bytesOf, stepsOf}
 use Rattle.demands.specs.Observer.{nothing}
 use Rattle.demands.specs.Words.{acknowledge, underService, found, nearest, turn, bytes, allBytes}
 use Rattle.demands.specs.Demands.{Listed, Demand3, FromFresh, FromSound, FromAny}

@@ -25,7 +25,7 @@ use Rattle.board.specs.declared.Stepped.{Stepped}
 use Rattle.board.specs.Board.{there, ports, requestOf}
 use Rattle.board.specs.Step.{kindOf, valueOf, Doing, reset, fetch, acknowledge, at, doingOf, change, taken, answered, refusal, accepted, refused, stepOf}
 use Rattle.board.proofs.There.{there-taken}
-use Rattle.run.specs.Run.{records, bytesOf, stepsOf, answersOf}
+use Rattle.records.specs.Records.{records, bytesOf, stepsOf, answersOf}
 use Rattle.demands.specs.Observer.{Kept, nothing, code, fetched, see, seeAll}
 use Rattle.demands.specs.Observer as observer
 use Rattle.demands.specs.Words.{underService, found}

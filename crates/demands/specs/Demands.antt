@@ -14,7 +14,8 @@ use Rattle.chain.specs.Decode.{retiOf}
 use Rattle.board.specs.declared.Board.{Board}
 use Rattle.board.specs.Board.{ports, portAt, soundBoard, freshOf, requestOf}
 use Rattle.board.specs.Step.{placeOf, valueOf, lines, answer, stepOf}
-use Rattle.run.specs.Run.{records, bytesOf, stepsOf, answersOf, runLines, ranOf, bufferOf}
+use Rattle.records.specs.Records.{records, bytesOf, stepsOf, answersOf}
+use Rattle.run.specs.Run.{runLines, ranOf, bufferOf}
 use Rattle.demands.specs.Observer.{Kept, nothing}
 use Rattle.demands.specs.Words.{stepCodes, runCodes, listed, decides, acknowledge, underService, found, kept, Nearing, nearest, turn, allBytes}
 use Rattle.demands.specs.Sessions.{given, rows}

@@ -12,7 +12,7 @@ use Rattle.chain.specs.Chain.{flat}
 use Rattle.board.specs.declared.Board.{Board}
 use Rattle.board.specs.declared.Lines.{Lines}
 use Rattle.board.specs.Board.{freshOf, linesOf}
-use Rattle.run.specs.Run.{records, stepsOf, answersOf}
+use Rattle.records.specs.Records.{records, stepsOf, answersOf}
 
 -- an event, its fourth byte 0; an answer: code, place, value, request
 abbrev pub ev : ℕ → ℕ → ℕ → List ℕ

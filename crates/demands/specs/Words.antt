@@ -11,7 +11,7 @@ use Rattle.chain.specs.Chain.{ready, under}
 use Rattle.board.specs.declared.Board.{Board}
 use Rattle.board.specs.Board.{ports}
 use Rattle.board.specs.Step.{Line, line}
-use Rattle.run.specs.Run.{records, answersOf}
+use Rattle.records.specs.Records.{records, answersOf}
 use Rattle.demands.specs.Observer.{Kept, seeAll}
 
 -- the codes of document 01's table, and those of a run

@@ -18,7 +18,8 @@ use Rattle.chip.proofs.Keep.{fresh-sound}
 use Rattle.board.specs.Board.{soundBoard, freshOf}
 use Rattle.board.specs.Step.{stepOf}
 use Rattle.board.proofs.Quick.{step-sound}
-use Rattle.run.specs.Run.{records, bytesOf, stepsOf, answersOf, refusalOf, ranOf, bufferOf}
+use Rattle.records.specs.Records.{records, bytesOf, stepsOf, answersOf}
+use Rattle.run.specs.Run.{refusalOf, ranOf, bufferOf}
 use Rattle.text.specs.Listing.{listingOf, tailOf}
 use Rattle.listing.specs.Text.{textOf}
 

@@ -6,7 +6,7 @@ use lib.ListN.{length}
 use Rattle.bits.specs.Bits.{if_then_else_}
 use Rattle.board.specs.declared.Board.{Board}
 use Rattle.board.specs.Step.{stepOf}
-use Rattle.run.specs.Run.{records, bytesOf, stepsOf, answersOf}
+use Rattle.records.specs.Records.{records, bytesOf, stepsOf, answersOf}
 use Rattle.text.specs.Listing.{listingOf, tailOf}
 use Rattle.text.proofs.Pieces as text
 use Rattle.listing.specs.Text.{textOf}

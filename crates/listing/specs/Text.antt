@@ -5,7 +5,7 @@ use mathlib.Core.List.{List, _++_}
 use Prim.Native.Nat.{ℕ}
 use lib.ListN.{length}
 use Rattle.board.specs.declared.Board.{Board}
-use Rattle.run.specs.Run.{records, answersOf}
+use Rattle.records.specs.Records.{records, answersOf}
 use Rattle.text.specs.Listing.{listingOf, tailOf}
 
 -- the answers to the records of the input, a line each from line `number` on, and behind them the tail

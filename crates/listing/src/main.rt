@@ -9,7 +9,7 @@ ghost use Prim.Native.Nat.{_+_, _/_, _%_, _^_, _≤_};
 ghost use lib.ListN.{length};
 ghost use Rattle.buffers.specs.Splice.{Wrote};
 ghost use Rattle.board.specs.Board.{soundBoard};
-ghost use Rattle.run.specs.Run.{records, stepsOf};
+ghost use Rattle.records.specs.Records.{records, stepsOf};
 ghost use Rattle.listing.specs.Text.{textOf};
 
 // Where the listing stands: the board, the number of the next line, and whether there may be more to list.

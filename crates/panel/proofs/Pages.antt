@@ -11,7 +11,7 @@ use Rattle.board.specs.declared.Board.{Board}
 use Rattle.board.specs.declared.Stepped.{Stepped}
 use Rattle.board.specs.Board.{ports}
 use Rattle.board.specs.Step.{stepOf}
-use Rattle.run.specs.Run.{records, bytesOf, stepsOf}
+use Rattle.records.specs.Records.{records, bytesOf, stepsOf}
 use Rattle.text.specs.Listing.{after, listingOf, tailOf}
 use Rattle.panel.specs.Text.{placesOf, pageOf, pagesOf, textOf}
 

@@ -6,7 +6,7 @@ use lib.ListN.{length}
 use Rattle.bits.specs.Bits.{if_then_else_}
 use Rattle.board.specs.declared.Board.{Board}
 use Rattle.board.specs.Step.{stepOf}
-use Rattle.run.specs.Run.{records, stepsOf}
+use Rattle.records.specs.Records.{records, stepsOf}
 use Rattle.text.specs.Listing.{tailOf}
 use Rattle.text.proofs.Pieces as text
 use Rattle.panel.specs.Text.{pageOf, pagesOf, textOf}

@@ -10,7 +10,7 @@ use Rattle.board.specs.declared.Board.{Board}
 use Rattle.board.specs.declared.Stepped.{Stepped}
 use Rattle.board.specs.Board.{ports, linesOf}
 use Rattle.board.specs.Step.{stepOf}
-use Rattle.run.specs.Run.{records, bytesOf}
+use Rattle.records.specs.Records.{records, bytesOf}
 use Rattle.text.specs.Listing.{after, listingOf, tailOf}
 use Rattle.text.specs.Panel.{placeRow}
 

@@ -12,7 +12,7 @@ ghost use lib.ListN.{length, take};
 ghost use Rattle.buffers.specs.Splice.{ifRoom, Wrote};
 ghost use Rattle.chain.specs.Chain.{flat};
 ghost use Rattle.board.specs.Step.{stepOf};
-ghost use Rattle.run.specs.Run.{records, stepsOf};
+ghost use Rattle.records.specs.Records.{records, stepsOf};
 ghost use Rattle.text.specs.Listing.{after};
 ghost use Rattle.panel.specs.Text.{placeLine, placesOf, pageOf, textOf};
 

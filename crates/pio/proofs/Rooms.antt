@@ -13,7 +13,7 @@ use Rattle.board.specs.declared.Board.{Board}
 use Rattle.board.specs.declared.Answer.{Answer}
 use Rattle.board.specs.declared.Stepped.{Stepped}
 use Rattle.board.specs.Step.{answer, stepOf}
-use Rattle.run.specs.Run.{bytesOf}
+use Rattle.records.specs.Records.{bytesOf}
 use Rattle.pio.specs.Lent.{lentOf, written}
 
 together : (b : Board) (a : Answer) (s : Stepped) → b ≡ s .board → a ≡ s .answer → _≡_ {A = Stepped} (record { board = b; answer = a }) s

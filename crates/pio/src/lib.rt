@@ -13,7 +13,8 @@ ghost use lib.ListN.{length};
 ghost use Rattle.board.specs.Board.{freshOf};
 ghost use Rattle.board.specs.Step.{stepOf};
 ghost use Rattle.board.specs.Halves.{idle};
-ghost use Rattle.run.specs.Run.{bytesOf, ranOf, bufferOf};
+ghost use Rattle.records.specs.Records.{bytesOf};
+ghost use Rattle.run.specs.Run.{ranOf, bufferOf};
 ghost use Rattle.pio.specs.Seen.{seenPlan};
 ghost use Rattle.pio.specs.Lent.{lentOf, lentLines, linesBytes, written};
 

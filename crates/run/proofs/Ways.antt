@@ -1,32 +1,22 @@
--- The three ways of a record through the loop, each a turn of the run that keeps what the locals keep.
+-- The ways out of `refusal` and of `run`.
 -- Assumes nothing.
-use mathlib.Core.Path.{_≡_, sym, ap, _∙_}
-use mathlib.Core.Bool.{Bool, true, false, _||_, not}
-use mathlib.Core.List.{List, [], _∷_}
-use Prim.Native.Nat.{ℕ, _+_, _-_, _*_, _/_, _%_, _≤_, _<_}
-use native.Mathlib.Nat.{add-sub-cancel-left}
+use mathlib.Core.Path.{_≡_, ap, _∙_}
+use mathlib.Core.Bool.{Bool, true, false, not}
+use mathlib.Core.List.{List}
+use Prim.Native.Nat.{ℕ, _+_, _*_, _/_, _%_, _≤_, _<_}
 use native.Mathlib.Omega.{arith}
-use lib.Dec.{ltb}
-use lib.ListN.{length, take, drop, getD}
-use lib.Seq.{getD-take, getD-drop}
+use lib.ListN.{length}
 use borrow.Author.Tests.{lt-ltb, eq-eqb, ne-eqb, le-ltb}
 use Rattle.bits.specs.Bits.{if_then_else_}
 use Rattle.buffers.specs.Splice.{splice}
 use Rattle.board.specs.declared.Board.{Board}
-use Rattle.board.specs.declared.Answer.{Answer}
 use Rattle.board.specs.declared.Look.{Look}
-use Rattle.board.specs.declared.Plan.{Plan}
-use Rattle.board.specs.declared.Changed.{Changed}
-use Rattle.board.specs.declared.Swept.{Swept}
-use Rattle.board.specs.Board.{most, there, soundBoard}
-use Rattle.board.specs.Step.{valueOf}
-use Rattle.board.specs.Halves.{lookOf, signalOf, planOf, changedOf, blank, sweptOf, wholly, singly, idly}
-use Rattle.board.proofs.Ways.{off, on}
-use Rattle.board.proofs.Steps.{quiet}
+use Rattle.board.specs.Board.{soundBoard}
+use Rattle.board.specs.Halves.{lookOf}
+use Rattle.board.proofs.Ways.{on}
 use Rattle.run.specs.declared.Ran.{Ran}
-use Rattle.run.specs.Run.{records, stepsOf, answersOf, bytesOf, refusalOf, ranOf, bufferOf}
-use Rattle.run.proofs.Turns.{Running, turn}
-use Rattle.run.proofs.Kept.{Kept, whole-steps, whole-keeps, idle-steps, idle-keeps, single-steps, single-keeps}
+use Rattle.records.specs.Records.{records, stepsOf, answersOf}
+use Rattle.run.specs.Run.{refusalOf, ranOf, bufferOf}
 
 -- ---- the run's refusals, in their order; accepted, there is room
 abbrev Accepts : Bool → ℕ → ℕ → ℕ → ℕ → Type 0
@@ -48,74 +38,6 @@ module _ (sound : Bool) (events room start : ℕ) where
   pub none-refused : not sound ≡ false → events % 4 ≡ 0 → start + events / 4 ≤ room / 4 → (0 ≡ refusalOf sound events room start) × Accepts sound events room start 0
   unfolding refusalOf
   none-refused t n h = (rw (t, eq-eqb (events % 4) 0 n, le-ltb (room / 4) (start + events / 4) h), λ z. (on sound t, (n, h)))
-
--- before the first record
-pub kept-begins : (b : Board) (l : Look) (r : ℕ) → l ≡ lookOf (b .size) (b .chips) → soundBoard b ≡ true → length (b .chips) ≡ most → r ≡ signalOf (l .marks) → Kept b (l .marks) r (l .due)
-unfolding lookOf
-kept-begins b l r i s n q =
-    record {
-      sound = s;
-      row = n;
-      marked = ap (λ (x : Look). x .marks) i;
-      asked = q;
-      still = λ z. quiet (there b) (sym (ap (λ (x : Look). x .due) i) ∙ z);
-    }
-
--- the record's part of the events, and that its value is a byte
-pub part-is : (es : List ℕ) (i : ℕ) → take (4 * i + 4 - 4 * i) (drop (4 * i) es) ≡ take 4 (drop (4 * i) es)
-part-is es i = rw (add-sub-cancel-left (4 * i) 4)
-
-pub byte-in : (es : List ℕ) (i : ℕ) → getD es (4 * i + 2) 0 < 256 → ltb (valueOf (take 4 (drop (4 * i) es))) 256 ≡ true
-byte-in es i h = rw (getD-take 4 (drop (4 * i) es) 2 0 (omega arith), getD-drop (4 * i) es 2 0) (lt-ltb (getD es (4 * i + 2) 0) 256 h)
-
-abbrev four : Answer → List ℕ
-four a = a .code ∷ a .place ∷ a .value ∷ a .request ∷ []
-
--- ---- before record i: it is there, and there is room for its answer
-pub record Going (es old : List ℕ) (start : ℕ) (b₀ : Board) (n : ℕ) (out : List ℕ) (b : Board) (marks : List ℕ) (request : ℕ) (due : Bool) (i : ℕ) : Type 0 where
-  pub running : Running es old start b₀ n out b i
-  pub kept : Kept b marks request due
-  pub more : i < n
-  pub events : 4 * n ≤ length es
-  pub room : 4 * (start + n) ≤ length old
-  pub byte : getD es (4 * i + 2) 0 < 256
-
-module _ {es old : List ℕ} {start : ℕ} {b₀ : Board} {n : ℕ} {out : List ℕ} {b : Board} {marks : List ℕ} {request : ℕ} {due : Bool} {i : ℕ}
-    (g : Going es old start b₀ n out b marks request due i) (w : Plan)
-    (iw : w ≡ planOf (b .size) (b .decoder) marks due request (take (4 * i + 4 - 4 * i) (drop (4 * i) es))) where
-  abbrev event : List ℕ
-  event = take 4 (drop (4 * i) es)
-
-  asks : w ≡ planOf (b .size) (b .decoder) marks due request event
-  asks = iw ∙ ap (planOf (b .size) (b .decoder) marks due request) (part-is es i)
-
-  small : ltb (valueOf event) 256 ≡ true
-  small = byte-in es i (g .byte)
-
-  pub whole-turn : (s : Swept) (out′ : List ℕ) → w .whole ≡ true → s ≡ sweptOf (b .size) (b .chips) w → out′ ≡ splice out (4 * (start + i)) (four (s .answer))
-      → Running es old start b₀ n out′ (wholly b w s .board) (i + 1) × Kept (wholly b w s .board) (s .marks) (s .answer .request) false
-  unfolding bytesOf
-  whole-turn s out′ t e o = (
-    turn es old start b₀ n (wholly b w s) out′ (g .running) (g .more) (g .events) (g .room) (whole-steps b marks request due (g .kept) event small w asks s t e) o,
-    whole-keeps b marks request due (g .kept) event small w asks s t e,
-  )
-
-  pub idle-turn : (out′ : List ℕ) → w .whole ≡ false → not (w .one) ≡ true → out′ ≡ splice out (4 * (start + i)) (w .code ∷ w .place ∷ w .value ∷ w .request ∷ [])
-      → Running es old start b₀ n out′ (idly b w .board) (i + 1) × Kept (idly b w .board) marks request due
-  unfolding bytesOf
-  idle-turn out′ t u o = (
-    turn es old start b₀ n (idly b w) out′ (g .running) (g .more) (g .events) (g .room) (idle-steps b marks request due (g .kept) event small w asks t (off (w .one) u)) o,
-    idle-keeps b marks request due (g .kept) event small w asks,
-  )
-
-  pub single-turn : (r : Changed) (out′ : List ℕ) → w .whole ≡ false → not (w .one) ≡ false → r ≡ changedOf (getD (b .chips) (w .chip) blank) w
-      → out′ ≡ splice out (4 * (start + i)) (four (r .answer))
-      → Running es old start b₀ n out′ (singly b w r .board) (i + 1) × Kept (singly b w r .board) (r .marks) (r .answer .request) (due || r .due)
-  unfolding bytesOf
-  single-turn r out′ t u e o = (
-    turn es old start b₀ n (singly b w r) out′ (g .running) (g .more) (g .events) (g .room) (single-steps b marks request due (g .kept) event small w asks r t e) o,
-    single-keeps b marks request due (g .kept) event small w asks r t (on (w .one) u) e,
-  )
 
 -- ---- the ways out of `run`
 pub sound-is : (b : Board) (l : Look) → l ≡ lookOf (b .size) (b .chips) → l .sound ≡ soundBoard b

@@ -1,39 +1,17 @@
 -- Document 01, "Records": a run takes a board, event bytes, an answer buffer and a starting record number in that buffer.
 -- Assumes nothing.
 use mathlib.Core.Bool.{Bool, not}
-use mathlib.Core.List.{List, [], _∷_, _++_}
+use mathlib.Core.List.{List, [], _∷_}
 use Prim.Native.Nat.{ℕ, _+_, _*_, _/_, _%_}
 use lib.Dec.{ltb}
 use lib.ListN.{length}
 use Rattle.bits.specs.Bits.{if_then_else_, _is_}
 use Rattle.buffers.specs.Splice.{splice}
 use Rattle.board.specs.declared.Board.{Board}
-use Rattle.board.specs.declared.Answer.{Answer}
 use Rattle.board.specs.Board.{soundBoard}
-use Rattle.board.specs.Step.{Line, line, verdict, stepOf}
+use Rattle.board.specs.Step.{Line, line, verdict}
+use Rattle.records.specs.Records.{records, stepsOf, answersOf}
 use Rattle.run.specs.declared.Ran.{Ran}
-
--- "Records have one size, 4 bytes, and no header"
-unfoldable pub records : List ℕ → List (List ℕ)
-records [] = []
-records (a ∷ []) = []
-records (a ∷ b ∷ []) = []
-records (a ∷ b ∷ c ∷ []) = []
-records (a ∷ b ∷ c ∷ d ∷ rest) = (a ∷ b ∷ c ∷ d ∷ []) ∷ records rest
-
--- the four bytes of an answer
-unfoldable pub bytesOf : Answer → List ℕ
-bytesOf a = a .code ∷ a .place ∷ a .value ∷ a .request ∷ []
-
--- the board after the events, refused ones included, each its four bytes
-unfoldable pub stepsOf : Board → List (List ℕ) → Board
-stepsOf b [] = b
-stepsOf b (e ∷ es) = stepsOf (stepOf b e .board) es
-
--- the answers' bytes, one record after the other
-unfoldable pub answersOf : Board → List (List ℕ) → List ℕ
-answersOf b [] = []
-answersOf b (e ∷ es) = bytesOf (stepOf b e .answer) ++ answersOf (stepOf b e .board) es
 
 -- "Run refusals, in this order: 35 board not sound, 32 event length not a multiple of 4, 34 when the start plus the number of event
 -- records is more than the buffer's number of whole records". `events`, `room`: the lengths of the two buffers

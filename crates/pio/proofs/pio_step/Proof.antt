@@ -44,7 +44,7 @@ use Rattle.board.specs.declared.Board.{Board}
 use Rattle.board.specs.declared.Answer.{Answer}
 use Rattle.board.specs.declared.Stepped.{Stepped}
 use Rattle.board.specs.Step.{answer, stepOf}
-use Rattle.run.specs.Run.{bytesOf}
+use Rattle.records.specs.Records.{bytesOf}
 use Rattle.pio.specs.Lent.{lentOf, written}
 use Rattle.board.proofs.Board as T
 use Rattle.board.proofs.Answer as N

@@ -2,7 +2,7 @@
 -- Assumes nothing.
 use mathlib.Core.Path.{refl}
 use borrow.Author.Needs.{needs}
-use Rattle.run.specs.Run.{bytesOf}
+use Rattle.records.specs.Records.{bytesOf}
 use Rattle.pio.specs.Lent.{written}
 use Rattle.pio.proofs.put_answer.Statement.{statement}
 use Rattle.pio.proofs.put_answer.Tie as tie

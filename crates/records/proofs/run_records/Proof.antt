@@ -1,4 +1,4 @@
--- `run::run_records` meets its contract: each way of a record is a turn of the run.
+-- `records::run_records` meets its contract: each way of a record is a turn of the run.
 -- Assumes nothing.
 use mathlib.Core.Path.{sym, _∙_}
 use mathlib.Core.Bool.{true, false}
@@ -9,13 +9,13 @@ use lib.ListN.{length, getD}
 use borrow.Author.Needs.{needs}
 use Rattle.buffers.proofs.Splices.{room-rest}
 use Rattle.board.specs.declared.Board.{Board}
-use Rattle.run.proofs.Turns.{Running, begin, done}
-use Rattle.run.proofs.Kept.{Kept}
-use Rattle.run.proofs.Ways.{Going, kept-begins, whole-turn, idle-turn, single-turn}
-use Rattle.run.proofs.Fast.{Passed, none-passed, one-passed, idle-there}
-use Rattle.run.proofs.Places.{Acts, by-kind, by-side, by-rest, act-turn}
-use Rattle.run.proofs.run_records.Statement.{statement}
-use Rattle.run.proofs.run_records.Tie as tie
+use Rattle.records.proofs.Turns.{Running, begin, done}
+use Rattle.records.proofs.Kept.{Kept}
+use Rattle.records.proofs.Ways.{Going, kept-begins, whole-turn, idle-turn, single-turn}
+use Rattle.records.proofs.Fast.{Passed, none-passed, one-passed, idle-there}
+use Rattle.records.proofs.Places.{Acts, by-kind, by-side, by-rest, act-turn}
+use Rattle.records.proofs.run_records.Statement.{statement}
+use Rattle.records.proofs.run_records.Tie as tie
 
 -- ---- the loop over all records, and the loop within it over fetches that change the decoder alone
 abbrev Inv-loop : tie.InvT-loop

@@ -1,9 +1,9 @@
--- `run::renewed` meets its contract.
+-- `records::renewed` meets its contract.
 -- Assumes nothing.
 use borrow.Author.Needs.{needs}
-use Rattle.run.proofs.Fast.{no-chip, same-mark}
-use Rattle.run.proofs.renewed.Statement.{statement}
-use Rattle.run.proofs.renewed.Tie as tie
+use Rattle.records.proofs.Fast.{no-chip, same-mark}
+use Rattle.records.proofs.renewed.Statement.{statement}
+use Rattle.records.proofs.renewed.Tie as tie
 
 pub renewed-spec : {M : Type 1} → statement M
 renewed-spec =

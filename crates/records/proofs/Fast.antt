@@ -23,10 +23,10 @@ use Rattle.board.specs.Step.{kindOf, placeOf, valueOf, lastOf}
 use Rattle.board.specs.Halves.{signalOf, earlyOf, fetchPlan, acceptedPlan, planOf}
 use Rattle.board.proofs.Quick.{parts}
 use Rattle.board.proofs.Ways.{off, set-beyond}
-use Rattle.run.specs.Fast.{idlesOf}
-use Rattle.run.proofs.Turns.{Running}
-use Rattle.run.proofs.Kept.{Kept}
-use Rattle.run.proofs.Ways.{part-is, Going, idle-turn}
+use Rattle.records.specs.Fast.{idlesOf}
+use Rattle.records.proofs.Turns.{Running}
+use Rattle.records.proofs.Kept.{Kept}
+use Rattle.records.proofs.Ways.{part-is, Going, idle-turn}
 
 -- ---- the bytes of record i
 module _ (es : List ℕ) (i : ℕ) where

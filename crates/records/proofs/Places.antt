@@ -31,10 +31,10 @@ use Rattle.board.proofs.Quick.{parts}
 use Rattle.board.proofs.Tables.{place-there}
 use Rattle.board.proofs.Ways.{touch-act}
 use Rattle.board.proofs.Halves.{size-fits}
-use Rattle.run.proofs.Turns.{Running}
-use Rattle.run.proofs.Kept.{Kept}
-use Rattle.run.proofs.Ways.{part-is, Going, single-turn}
-use Rattle.run.proofs.Fast.{record-at, byte-at, kind-at, record-long}
+use Rattle.records.proofs.Turns.{Running}
+use Rattle.records.proofs.Kept.{Kept}
+use Rattle.records.proofs.Ways.{part-is, Going, single-turn}
+use Rattle.records.proofs.Fast.{record-at, byte-at, kind-at, record-long}
 
 -- ---- the chip at an index of a sound board
 sound-at : (cs : List Chip) (k : ℕ) → soundAll cs ≡ true → k < length cs → soundChip (getD cs k blank) ≡ true

@@ -1,10 +1,10 @@
--- `run::idles` meets its contract.
+-- `records::idles` meets its contract.
 -- Assumes nothing.
 use native.Mathlib.Omega.{arith}
 use borrow.Author.Needs.{needs}
-use Rattle.run.proofs.Fast.{none-there, idles-here}
-use Rattle.run.proofs.idles.Statement.{statement}
-use Rattle.run.proofs.idles.Tie as tie
+use Rattle.records.proofs.Fast.{none-there, idles-here}
+use Rattle.records.proofs.idles.Statement.{statement}
+use Rattle.records.proofs.idles.Tie as tie
 
 pub idles-spec : {M : Type 1} → statement M
 idles-spec =

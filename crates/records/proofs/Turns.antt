@@ -12,7 +12,7 @@ use Rattle.buffers.proofs.Splices.{splice-next, splice-none, length-splice}
 use Rattle.board.specs.declared.Board.{Board}
 use Rattle.board.specs.declared.Stepped.{Stepped}
 use Rattle.board.specs.Step.{stepOf}
-use Rattle.run.specs.Run.{records, stepsOf, answersOf, bytesOf}
+use Rattle.records.specs.Records.{records, stepsOf, answersOf, bytesOf}
 
 -- ---- records
 -- four bytes or more: the first record, and the records of the rest

@@ -7,7 +7,7 @@ use native.Mathlib.Omega.{arith}
 use lib.ListN.{length}
 use Rattle.board.specs.declared.Board.{Board}
 use Rattle.board.specs.Step.{stepOf}
-use Rattle.run.specs.Run.{records, bytesOf, stepsOf, answersOf}
+use Rattle.records.specs.Records.{records, bytesOf, stepsOf, answersOf}
 
 append-assoc : (x y z : List ℕ) → (x ++ y) ++ z ≡ x ++ (y ++ z)
 append-assoc [] y z = refl
