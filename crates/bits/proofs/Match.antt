@@ -2,9 +2,10 @@
 -- Assumes nothing.
 use mathlib.Core.Path.{_≡_, refl, ap, ap₂, _∙_}
 use mathlib.Core.Bool.{Bool, true, false, _&&_, _||_, not, Bool·beq}
-use Prim.Native.Nat.{ℕ, _-_, _<_}
+use Prim.Native.Nat.{ℕ, zero, suc, _-_, _<_}
 use native.Mathlib.Omega.{arith}
 use lib.Dec.{eqb}
+use borrow.Author.Tests.{ne-eqb}
 use lib.Bits.{bitAnd, bitOr, and-le-l, or-lt}
 use Rattle.bits.specs.Bits.{if_then_else_, bit, some, every}
 use Rattle.bits.specs.Lines.{counts, active, activeOf, matchOf, mixedOf, levelsOf}
@@ -59,18 +60,52 @@ module _ (select mask : ℕ) (hs : select < 256) (hm : mask < 256) where
         ap not (ap₂ _&&_ (counting select mask hm k l) (bit-not k (activeOf lines high) l (active-fit lines high hl) ∙ ap not (at-active lines high hl k l)))
         ∙ not-and-not (counts select mask k) (active lines high k))
 
--- the two ways out of `matches`
-pub by-or :
+-- OR and AND by the tests
+by-or :
     (select mask lines on : ℕ) (high all : Bool) → all ≡ false → on ≡ activeOf lines high → select < 256 → mask < 256 → lines < 256 →
     not (eqb (bitAnd (bitAnd select (255 - mask)) on) 0) ≡ matchOf select mask lines high all
 unfolding matchOf if_then_else_
 by-or select mask lines on high all a e hs hm hl = rw (a, e) (some-on select mask hs hm lines high hl)
 
-pub by-and :
+by-and :
     (select mask lines on : ℕ) (high all : Bool) → all ≡ true → on ≡ activeOf lines high → select < 256 → mask < 256 → lines < 256 →
     (not (eqb (bitAnd select (255 - mask)) 0) && eqb (bitAnd (bitAnd select (255 - mask)) (255 - on)) 0) ≡ matchOf select mask lines high all
 unfolding matchOf if_then_else_
 by-and select mask lines on high all a e hs hm hl = rw (a, e) (ap₂ _&&_ (some-count select mask hs hm) (none-off select mask hs hm lines high hl))
+
+-- `matches` asks one question for both: is a watched line active (OR), or inactive (AND)? OR of no line is no match without being asked
+double : (b : Bool) → not (Bool·beq b false) ≡ b
+double true = refl
+double false = refl
+
+turned : (b : Bool) → not (Bool·beq (not b) true) ≡ b
+turned true = refl
+turned false = refl
+
+some-watched : (w on : ℕ) → (not (eqb w 0) && not (Bool·beq (not (eqb (bitAnd w on) 0)) false)) ≡ not (eqb (bitAnd w on) 0)
+some-watched zero on = refl
+some-watched (suc w) on =
+    let full : eqb (suc w) 0 ≡ false = ne-eqb (suc w) 0 (omega arith) in
+    rw full (double (not (eqb (bitAnd (suc w) on) 0)))
+
+at-or : (lines : ℕ) (high : Bool) → activeOf lines (not (Bool·beq high false)) ≡ activeOf lines high
+at-or lines true = refl
+at-or lines false = refl
+
+at-and : (lines : ℕ) (high : Bool) → lines < 256 → activeOf lines (not (Bool·beq high true)) ≡ 255 - activeOf lines high
+unfolding if_then_else_
+at-and lines true h = refl
+at-and lines false h = omega arith
+
+pub by-both :
+    (select mask lines seen : ℕ) (high all : Bool) → seen ≡ activeOf lines (not (Bool·beq high all)) → select < 256 → mask < 256 → lines < 256 →
+    (not (eqb (bitAnd select (255 - mask)) 0) && not (Bool·beq (not (eqb (bitAnd (bitAnd select (255 - mask)) seen) 0)) all)) ≡ matchOf select mask lines high all
+by-both select mask lines seen high false e hs hm hl =
+    rw (e, at-or lines high)
+    (some-watched (bitAnd select (255 - mask)) (activeOf lines high) ∙ by-or select mask lines (activeOf lines high) high false refl refl hs hm hl)
+by-both select mask lines seen high true e hs hm hl =
+    rw (e, at-and lines high hl, turned (eqb (bitAnd (bitAnd select (255 - mask)) (255 - activeOf lines high)) 0))
+    (by-and select mask lines (activeOf lines high) high true refl refl hs hm hl)
 
 -- `select & lines | out & !select`, bit by bit
 chosen : (s l o : Bool) → ((s && l) || (o && not s)) ≡ (if s then l else o)

@@ -10,17 +10,14 @@ fn active_lines(lines: u8, high: bool) -> u8
     if high { lines } else { !lines }
 }
 
-// Whether the lines match: the input lines with mask bit 0, some (OR) or all (AND) of them at the active level.
+// Whether the lines match: the input lines with mask bit 0, some (OR) or all (AND) of them at the active level. All are if none is at
+// the other level, so that one test does for both, and no branch.
 pub fn matches(select: u8, mask: u8, lines: u8, high: bool, all: bool) -> bool
     ensures { λ r. ⌜ r ≡ matchOf select mask lines high all ⌝ }
 {
     let watched = select & !mask;
-    let on = active_lines(lines, high);
-    if all {
-        (watched != 0) & (watched & !on == 0)
-    } else {
-        watched & on != 0
-    }
+    let met = watched & active_lines(lines, !(high == all)) != 0;
+    (watched != 0) & !(met == all)
 }
 
 // What a read in bit control shows: the line on input bits, the output register on output bits.

@@ -1,5 +1,4 @@
 pub mod Places
 pub mod Flat
 pub mod Marks
-pub mod Table
 pub mod Scans

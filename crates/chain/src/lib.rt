@@ -2,7 +2,7 @@
 // knows of modes: a port is live, waits, is under service.
 use chip::Chip;
 ghost use mathlib.Core.Path.{_≡_};
-ghost use Prim.Native.Nat.{_+_, _≤_, _<_};
+ghost use Prim.Native.Nat.{_≤_};
 ghost use Rattle.bits.specs.Bits.{if_then_else_};
 ghost use Rattle.chain.specs.Decode.{nextOf, retiOf};
 ghost use Rattle.chain.specs.Marks.{markOf, callerOf, holderOf};
@@ -32,22 +32,27 @@ impl Decoder {
     }
 }
 
-// The number that four bits spell.
-fn number(x: bool, y: bool, z: bool, u: bool) -> usize
-    ensures { λ r. ⌜ (r ≡ (if x then 1 else 0) + (if y then 2 else 0) + (if z then 4 else 0) + (if u then 8 else 0)) × (r < 16) ⌝ }
+// One of two numbers.
+fn choose(first: bool, x: u8, y: u8) -> u8
+    ensures { λ r. ⌜ r ≡ (if «first» then x else y) ⌝ }
 {
-    x as usize + 2 * (y as usize) + 4 * (z as usize) + 8 * (u as usize)
+    if first { x } else { y }
 }
 
-// What the chain needs to know of a chip. A table, since a branch on bits that come and go as the lines please is dear.
+// What the chain needs to know of a chip. No branch hangs on the ports' flags: nobody can foretell them.
 pub fn mark(c: Chip) -> u8
     ensures { λ r. ⌜ r ≡ markOf c ⌝ }
 {
     let a = c.a;
     let b = c.b;
-    let marks = [0, 7, 1, 7, 11, 7, 9, 7, 2, 7, 1, 7, 11, 7, 9, 7];
-    let i = number(a.service, a.waiting & a.live, b.service, b.waiting & b.live);
-    marks[i]
+    let a_ready = a.waiting & a.live;
+    let b_ready = b.waiting & b.live;
+    let behind = choose(b.service, 11, choose(b_ready, 2, 0));
+    choose(
+        a.service,
+        7,
+        choose(a_ready, choose(b.service, 9, 1), behind),
+    )
 }
 
 // The place of the nearest asking port and 1, or 0 if none asks.

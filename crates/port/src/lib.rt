@@ -194,13 +194,16 @@ pub fn fresh() -> Port
     }
 }
 
-// What a sound board asks of one port.
+// What a sound board asks of one port. The faults are joined, not the merits: it takes fewer instructions.
 pub fn sound(p: Port, on_b: bool, follows: bool, watched: bool) -> bool
     ensures { λ r. ⌜ r ≡ soundOf «on_b» follows watched p ⌝ }
 {
-    (((p.mode < 4) & !(on_b & (p.mode == 2)))
-        & (p.vector % 2 == 0)
-        & (!p.live | p.asked)
-        & ((p.awaiting < 3) & (!(p.awaiting == 1) | (p.mode == 3)) & !(p.live & (p.awaiting == 2))))
-        & ((p.matched == (matching(p) & watched)) & (!follows | (p.input == p.lines)))
+    let fault = !(p.mode < 4)
+        | (on_b & (p.mode == 2))
+        | !(p.vector % 2 == 0)
+        | (p.live & !p.asked)
+        | (follows & !(p.input == p.lines))
+        | !(p.matched == (matching(p) & watched));
+    !(fault
+        | (!(p.awaiting < 3) | ((p.awaiting == 1) & !(p.mode == 3)) | (p.live & (p.awaiting == 2))))
 }

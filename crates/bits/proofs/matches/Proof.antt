@@ -1,7 +1,7 @@
--- `bits::matches` meets its contract: one law for each way out.
+-- `bits::matches` meets its contract.
 -- Assumes nothing.
 use borrow.Author.Needs.{needs}
-use Rattle.bits.proofs.Match.{by-or, by-and}
+use Rattle.bits.proofs.Match.{by-both}
 use Rattle.bits.proofs.matches.Statement.{statement}
 use Rattle.bits.proofs.matches.Tie as tie
 
@@ -9,10 +9,7 @@ active-lines-requires : tie.Need-active-lines-requires
 active-lines-requires c κs = search needs
 
 returns : tie.Need-returns
-returns c = search by-and
-
-returns-2 : tie.Need-returns-2
-returns-2 c = search by-or
+returns c = search by-both
 
 pub matches-spec : {M : Type 1} → statement M
-matches-spec = tie.close (tie.spec active-lines-requires returns returns-2)
+matches-spec = tie.close (tie.spec active-lines-requires returns)
