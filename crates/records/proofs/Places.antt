@@ -17,7 +17,9 @@ use Rattle.chip.specs.declared.Chip.{Chip}
 use Rattle.chip.specs.Chip.{side}
 use Rattle.chip.specs.Sound.{soundChip}
 use Rattle.events.specs.declared.Acted.{Acted}
-use Rattle.events.specs.Act.{eventOf, actOf}
+use Rattle.events.specs.Events.{write, strobe, outside, changed}
+use Rattle.events.specs.Act.{eventOf, step, actOf}
+use Rattle.events.proofs.Ways.{acted, act-write, act-strobe, act-outside}
 use Rattle.chain.specs.declared.Decoder.{Decoder}
 use Rattle.chain.specs.Chain.{sideOf}
 use Rattle.chain.specs.Marks.{markOf}
@@ -70,34 +72,52 @@ module _ (es : List ℕ) (i : ℕ) where
   abbrev pub k : ℕ
   k = place / 2 % most
 
+  -- the event's chip in a row
+  abbrev pub chip-at : List Chip → Chip
+  chip-at cs = getD cs k blank
+
 -- ---- what the ways of the five kinds give: the row of chips with the event's chip changed, the answer's code and its value
 pub record Acts (es : List ℕ) (i : ℕ) (old new : List Chip) (code shown : ℕ) : Type 0 where
-  pub acted : Acted
-  pub event : soundChip (getD old (k es i) blank) ≡ true → acted ≡ actOf (sideOf (place es i)) (eventOf (kind es i) (value es i)) (value es i) (getD old (k es i) blank)
-  pub row : new ≡ set old (k es i) (acted .chip)
-  pub coded : code ≡ acted .code
-  pub told : shown ≡ acted .value
+  pub done : Acted
+  pub event : soundChip (chip-at es i old) ≡ true → done ≡ actOf (sideOf (place es i)) (eventOf (kind es i) (value es i)) (value es i) (chip-at es i old)
+  pub row : new ≡ set old (k es i) (done .chip)
+  pub coded : code ≡ done .code
+  pub told : shown ≡ done .value
 
 module _ {es : List ℕ} {i : ℕ} {old new : List Chip} {code shown : ℕ} (a : Acted) where
-  pub by-kind : (n : ℕ) → kind es i ≡ n → (soundChip (getD old (k es i) blank) ≡ true → a ≡ actOf (sideOf (place es i)) (eventOf n (value es i)) (value es i) (getD old (k es i) blank))
+  pub by-kind : (n : ℕ) → kind es i ≡ n → (soundChip (chip-at es i old) ≡ true → a ≡ actOf (sideOf (place es i)) (eventOf n (value es i)) (value es i) (chip-at es i old))
       → new ≡ set old (k es i) (a .chip) → code ≡ a .code → shown ≡ a .value → Acts es i old new code shown
-  by-kind n t f r x y = record { acted = a; event = λ s. rw t (f s); row = r; coded = x; told = y }
+  by-kind n t f r x y = record { done = a; event = λ s. rw t (f s); row = r; coded = x; told = y }
 
-  pub by-side : (s : Bool) → (place es i % 2 is 1) ≡ s → kind es i ≡ 3 → (soundChip (getD old (k es i) blank) ≡ true → a ≡ actOf (side s) (eventOf 3 (value es i)) (value es i) (getD old (k es i) blank))
+  pub by-side : (s : Bool) → (place es i % 2 is 1) ≡ s → kind es i ≡ 3 → (soundChip (chip-at es i old) ≡ true → a ≡ actOf (side s) (eventOf 3 (value es i)) (value es i) (chip-at es i old))
       → new ≡ set old (k es i) (a .chip) → code ≡ a .code → shown ≡ a .value → Acts es i old new code shown
   by-side s e t f = by-kind 3 t (λ h. rw e (f h))
 
+-- what the kinds with code 0 and the event's value give: a chip
+module _ {es : List ℕ} {i : ℕ} {old new : List Chip} {code shown : ℕ} (d : Chip) (r : new ≡ set old (k es i) d) (x : code ≡ 0) (y : shown ≡ value es i) where
+  pub by-write : kind es i ≡ 4 → (soundChip (chip-at es i old) ≡ true → d ≡ step (sideOf (place es i)) (write (value es i)) (chip-at es i old)) → Acts es i old new code shown
+  unfolding step
+  by-write t f =
+      by-kind (acted d 0 (value es i)) 4 t (λ s. act-write (sideOf (place es i)) 4 (value es i) (chip-at es i old) (changed (sideOf (place es i)) (write (value es i)) (chip-at es i old)) d refl refl refl (f s)) r x y
+
+  pub by-strobe : kind es i ≡ 6 → (soundChip (chip-at es i old) ≡ true → d ≡ step (sideOf (place es i)) (strobe (value es i is 1)) (chip-at es i old)) → Acts es i old new code shown
+  unfolding step
+  by-strobe t f =
+      by-kind (acted d 0 (value es i)) 6 t
+      (λ s. act-strobe (sideOf (place es i)) 6 (value es i) (chip-at es i old) (changed (sideOf (place es i)) (strobe (value es i is 1)) (chip-at es i old)) d refl refl refl refl refl (f s)) r x y
+
   -- none of the other four kinds: outside levels
-  pub by-rest : (kind es i ≡ 3 → ⊥) → (kind es i ≡ 4 → ⊥) → (kind es i ≡ 5 → ⊥) → (kind es i ≡ 6 → ⊥)
-      → (soundChip (getD old (k es i) blank) ≡ true → a ≡ actOf (sideOf (place es i)) (eventOf 7 (value es i)) (value es i) (getD old (k es i) blank))
-      → new ≡ set old (k es i) (a .chip) → code ≡ a .code → shown ≡ a .value → Acts es i old new code shown
-  unfolding eventOf if_then_else_
-  by-rest p q r s f x y z = record {
-    acted = a;
-    event = λ h. rw (ne-eqb (kind es i) 3 p, ne-eqb (kind es i) 4 q, ne-eqb (kind es i) 5 r, ne-eqb (kind es i) 6 s) (f h);
-    row = x;
-    coded = y;
-    told = z;
+  pub by-lines : (kind es i ≡ 3 → ⊥) → (kind es i ≡ 4 → ⊥) → (kind es i ≡ 5 → ⊥) → (kind es i ≡ 6 → ⊥)
+      → (soundChip (chip-at es i old) ≡ true → d ≡ step (sideOf (place es i)) (outside (value es i)) (chip-at es i old)) → Acts es i old new code shown
+  unfolding step
+  by-lines p q u v f = record {
+    done = acted d 0 (value es i);
+    event = λ s.
+        act-outside (sideOf (place es i)) (kind es i) (value es i) (chip-at es i old) (changed (sideOf (place es i)) (outside (value es i)) (chip-at es i old)) d
+        (ne-eqb (kind es i) 3 p) (ne-eqb (kind es i) 4 q) (ne-eqb (kind es i) 5 u) (ne-eqb (kind es i) 6 v) refl (f s);
+    row = r;
+    coded = x;
+    told = y;
   }
 
 module _ {es old : List ℕ} {start : ℕ} {b₀ : Board} {n : ℕ} {out : List ℕ} {b : Board} {marks : List ℕ} {request : ℕ} {due : Bool} {i : ℕ}
@@ -124,19 +144,19 @@ module _ {es old : List ℕ} {start : ℕ} {b₀ : Board} {n : ℕ} {out : List 
       let l = byte-at es i 3 (omega arith) in
       rw (part-is es i, ← placed-plan (b .size) (b .decoder) marks due request (record-at es i) (record-long es i n (g .more) (g .events)) (rw j lo) (rw (j, p, u, l) z), j, p, u)
 
-  changes : (a : Acted) → a ≡ actOf (sideOf (place es i)) (eventOf (kind es i) (value es i)) (value es i) (getD (b .chips) (k es i) blank)
-      → withActed w a ≡ changedOf (getD (b .chips) (k es i) blank) w
+  changes : (a : Acted) → a ≡ actOf (sideOf (place es i)) (eventOf (kind es i) (value es i)) (value es i) (chip-at es i (b .chips))
+      → withActed w a ≡ changedOf (chip-at es i (b .chips)) w
   unfolding changedOf
   changes a e =
-      ap (withActed w) (touch-act (getD (b .chips) (k es i) blank) w a (λ m. omega (arith, m, lo)) (λ m. omega (arith, m, lo)) e) ∙ sym (if-on true (withActed w _) _ refl)
+      ap (withActed w) (touch-act (chip-at es i (b .chips)) w a (λ m. omega (arith, m, lo)) (λ m. omega (arith, m, lo)) e) ∙ sym (if-on true (withActed w _) _ refl)
 
-  pub act-turn : {new : List Chip} {code shown : ℕ} (a : Acts es i (b .chips) new code shown) (m q : ℕ) (y : Bool) (out′ : List ℕ) → m ≡ markOf (getD new (k es i) blank)
-      → (request ≡ signalOf marks → q ≡ signalOf (set marks (k es i) m)) → y ≡ stirs (getD new (k es i) blank)
+  pub act-turn : {new : List Chip} {code shown : ℕ} (a : Acts es i (b .chips) new code shown) (m q : ℕ) (y : Bool) (out′ : List ℕ) → m ≡ markOf (chip-at es i new)
+      → (request ≡ signalOf marks → q ≡ signalOf (set marks (k es i) m)) → y ≡ stirs (chip-at es i new)
       → out′ ≡ splice out (4 * (start + i)) (code ∷ place es i ∷ shown ∷ q ∷ [])
       → Running es old start b₀ n out′ (record { size = b .size; chips = new; decoder = b .decoder }) (i + 1)
       × Kept (record { size = b .size; chips = new; decoder = b .decoder }) (set marks (k es i) m) q (due || y)
   act-turn {new} {code} {shown} a m q y out′ u r l o =
-      let d = a .acted in
+      let d = a .done in
       let e = ap (λ (cs : List Chip). getD cs (k es i) blank) (a .row) ∙ getD-set-same (b .chips) (k es i) (d .chip) blank in-row in
       let v = u ∙ ap markOf e in
       let s = r (g .kept .asked) ∙ ap (λ (x : ℕ). signalOf (set marks (k es i) x)) v in

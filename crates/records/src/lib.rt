@@ -107,11 +107,8 @@ pub fn run_records(
                     }
                     4 => {
                         let c = chips[k];
-                        let r = shortcuts::write(c, on_b, value);
-                        let d = r.chip;
+                        let d = shortcuts::write(c, on_b, value);
                         chips[k] = d;
-                        code = r.code;
-                        shown = r.value;
                     }
                     5 => {
                         let c = chips[k];
@@ -123,19 +120,13 @@ pub fn run_records(
                     }
                     6 => {
                         let c = chips[k];
-                        let r = shortcuts::strobe(c, on_b, value);
-                        let d = r.chip;
+                        let d = shortcuts::strobe(c, on_b, value == 1);
                         chips[k] = d;
-                        code = r.code;
-                        shown = r.value;
                     }
                     _ => {
                         let c = chips[k];
-                        let r = shortcuts::lines(c, on_b, value);
-                        let d = r.chip;
+                        let d = shortcuts::lines(c, on_b, value);
                         chips[k] = d;
-                        code = r.code;
-                        shown = r.value;
                     }
                 }
                 let d = chips[k];

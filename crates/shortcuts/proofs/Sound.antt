@@ -88,16 +88,16 @@ module _ (c : Chip) (s : Bool) where
 
 -- ---- outside levels: the other port is as it was
 pub lines-b : (c : Chip) (s : Bool) (v : ℕ) (f : Bool) (p q : Port) → s ≡ true → p ≡ linesNow v (c .b) → f ≡ follows B c → q ≡ settled f (not (c .a .mode is 2)) p
-    → soundChip c ≡ true → acted (made (c .a) q) 0 v ≡ actOf (side s) (eventOf 7 v) v c
+    → soundChip c ≡ true → made (c .a) q ≡ step (side s) (outside v) c
+unfolding step
 lines-b c s v f p q e i j k h =
-    ways.act-outside (side s) 7 v c (changed (side s) (outside v) c) (made (c .a) q) refl refl refl refl refl
-    (rw (e, k, j, i) (ap (λ (x : Port). made x (settled (follows B c) (not (off B c)) (linesNow v (c .b)))) (sym (rests-settled (follows A c) true (c .a) (apart c h .1 .0)))))
+    rw (e, k, j, i) (ap (λ (x : Port). made x (settled (follows B c) (not (off B c)) (linesNow v (c .b)))) (sym (rests-settled (follows A c) true (c .a) (apart c h .1 .0))))
 
 pub lines-a : (c : Chip) (s : Bool) (v : ℕ) (f : Bool) (p q : Port) → s ≡ false → p ≡ linesNow v (c .a) → f ≡ follows A c → q ≡ settled f true p
-    → soundChip c ≡ true → acted (made q (c .b)) 0 v ≡ actOf (side s) (eventOf 7 v) v c
+    → soundChip c ≡ true → made q (c .b) ≡ step (side s) (outside v) c
+unfolding step
 lines-a c s v f p q e i j k h =
-    ways.act-outside (side s) 7 v c (changed (side s) (outside v) c) (made q (c .b)) refl refl refl refl refl
-    (rw (e, k, j, i) (ap (made (settled (follows A c) true (linesNow v (c .a)))) (sym (rests-settled (follows B c) (not (off B c)) (c .b) (apart c h .1 .1)))))
+    rw (e, k, j, i) (ap (made (settled (follows A c) true (linesNow v (c .a)))) (sym (rests-settled (follows B c) (not (off B c)) (c .b) (apart c h .1 .1))))
 
 -- a strobe that stays at its level ends nothing
 never : (s acts : Bool) → (not s && s && acts) ≡ false
@@ -127,14 +127,9 @@ unfolding if_then_else_
 strobe-both c true level h = ap (λ (x : Port). followed (made x (strobed (acts B c) level (c .b)))) (strobed-same (acts A c) (c .a)) ∙ strobe-side c true B level h
 strobe-both c false level h = ap (λ (x : Port). followed (made (strobed (acts A c) level (c .a)) x)) (strobed-same (acts B c) (c .b)) ∙ strobe-side c false A level h
 
-pub strobe-at : (c : Chip) (s level x y : Bool) (p q : Port) (d : Chip) → x ≡ (if s then c .a .strobe else level) → y ≡ (if s then level else c .b .strobe)
+pub strobe-is : (c : Chip) (s level x y : Bool) (p q : Port) (d : Chip) → x ≡ (if s then c .a .strobe else level) → y ≡ (if s then level else c .b .strobe)
     → p ≡ strobed (acts A c) x (c .a) → q ≡ strobed (acts B c) y (c .b) → d ≡ followed (made p q) → soundChip c ≡ true → d ≡ step (side s) (strobe level) c
-strobe-at c s level x y p q d e f i j k h = rw (k, i, j, e, f) (strobe-both c s level h)
-
-pub act-strobe : (c : Chip) (s : Bool) (v : ℕ) (d : Chip) → (soundChip c ≡ true → d ≡ step (side s) (strobe (v is 1)) c) → soundChip c ≡ true
-    → acted d 0 v ≡ actOf (side s) (eventOf 6 v) v c
-unfolding step
-act-strobe c s v d e h = ways.act-strobe (side s) 6 v c (changed (side s) (strobe (v is 1)) c) d refl refl refl refl refl (e h)
+strobe-is c s level x y p q d e f i j k h = rw (k, i, j, e, f) (strobe-both c s level h)
 
 -- ---- a control word to B: no word moves the strobe, so A rests as before
 obeyed-strobe : (linked : Bool) (p : Port) (w : Word) → obeyed linked p w .strobe ≡ p .strobe
@@ -178,8 +173,9 @@ pub refused-a : (c : Chip) (v n : ℕ) (h : Heard) → h ≡ heardOf (c .a .awai
 refused-a c v n h e q t = ways.act-control A 3 v c (acted c n v) refl (ways.left-early false v n c (c .a) h refl e q t)
 
 -- ---- data
-pub act-write : (c : Chip) (s : Bool) (v : ℕ) (d : Chip) → d ≡ changed (side s) (write v) c → soundChip c ≡ true → acted d 0 v ≡ actOf (side s) (eventOf 4 v) v c
-act-write c s v d i g = ways.act-write (side s) 4 v c (changed (side s) (write v) c) d refl refl refl (i ∙ write-rests (side s) v c g)
+pub write-is : (c : Chip) (s : Bool) (v : ℕ) (d : Chip) → d ≡ changed (side s) (write v) c → soundChip c ≡ true → d ≡ step (side s) (write v) c
+unfolding step
+write-is c s v d i g = i ∙ write-rests (side s) v c g
 
 pub act-read : (c : Chip) (s : Bool) (v n : ℕ) (d : Chip) (p : Port) → p ≡ port (side s) c → d ≡ changed (side s) read c → n ≡ shownOf p → soundChip c ≡ true
     → acted d 1 n ≡ actOf (side s) (eventOf 5 v) v c

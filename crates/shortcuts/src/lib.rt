@@ -9,7 +9,7 @@ ghost use mathlib.Core.Bool.{true, false};
 ghost use Rattle.bits.specs.Bits.{if_then_else_};
 ghost use Rattle.chip.specs.Chip.{side};
 ghost use Rattle.chip.specs.Sound.{soundChip};
-ghost use Rattle.events.specs.Events.{strobe};
+ghost use Rattle.events.specs.Events.{write, strobe, outside};
 ghost use Rattle.events.specs.Act.{eventOf, step, actOf};
 ghost use Rattle.shortcuts.specs.Follow.{following, followed};
 
@@ -46,7 +46,7 @@ fn level_at(moved: bool, level: bool, old: bool) -> bool
 }
 
 // A strobe goes to a level: registers may follow, and no match changes. The other strobe stays at its level, which is no edge.
-fn strobe_at(c: Chip, on_b: bool, level: bool) -> Chip
+pub fn strobe(c: Chip, on_b: bool, level: bool) -> Chip
     ensures { λ r. ⌜ (soundChip c ≡ true → r ≡ step (side «on_b») (strobe level) c) ⌝ }
 {
     let a = c.a;
@@ -59,59 +59,34 @@ fn strobe_at(c: Chip, on_b: bool, level: bool) -> Chip
     follow(Chip { a: p, b: q })
 }
 
-// A strobe level.
-pub fn strobe(c: Chip, on_b: bool, value: u8) -> Acted
-    ensures { λ r. ⌜ (soundChip c ≡ true → r ≡ actOf (side «on_b») (eventOf 6 value) value c) ⌝ }
-{
-    let d = strobe_at(c, on_b, value == 1);
-    Acted {
-        chip: d,
-        code: 0,
-        value: value,
-    }
-}
-
 // Outside levels: the port that has the lines settles.
-pub fn lines(c: Chip, on_b: bool, value: u8) -> Acted
-    ensures { λ r. ⌜ (soundChip c ≡ true → r ≡ actOf (side «on_b») (eventOf 7 value) value c) ⌝ }
+pub fn lines(c: Chip, on_b: bool, value: u8) -> Chip
+    ensures { λ r. ⌜ (soundChip c ≡ true → r ≡ step (side «on_b») (outside value) c) ⌝ }
 {
     let a = c.a;
     let b = c.b;
     if on_b {
         let q = port::set_lines(b, value);
-        return Acted {
-            chip: Chip {
-                a: a,
-                b: port::settle(q, chip::b_follows(c), !(a.mode == 2)),
-            },
-            code: 0,
-            value: value,
+        return Chip {
+            a: a,
+            b: port::settle(q, chip::b_follows(c), !(a.mode == 2)),
         };
     }
     let q = port::set_lines(a, value);
-    Acted {
-        chip: Chip {
-            a: port::settle(q, chip::a_follows(c), true),
-            b: b,
-        },
-        code: 0,
-        value: value,
+    Chip {
+        a: port::settle(q, chip::a_follows(c), true),
+        b: b,
     }
 }
 
 // A data write leaves nothing to settle.
-pub fn write(c: Chip, on_b: bool, value: u8) -> Acted
-    ensures { λ r. ⌜ (soundChip c ≡ true → r ≡ actOf (side «on_b») (eventOf 4 value) value c) ⌝ }
+pub fn write(c: Chip, on_b: bool, value: u8) -> Chip
+    ensures { λ r. ⌜ (soundChip c ≡ true → r ≡ step (side «on_b») (write value) c) ⌝ }
 {
-    let d = events::write_data(c, on_b, value);
-    Acted {
-        chip: d,
-        code: 0,
-        value: value,
-    }
+    events::write_data(c, on_b, value)
 }
 
-// Nor does a data read.
+// Nor does a data read, which answers the byte read.
 pub fn read(c: Chip, on_b: bool, value: u8) -> Acted
     ensures { λ r. ⌜ (soundChip c ≡ true → r ≡ actOf (side «on_b») (eventOf 5 value) value c) ⌝ }
 {

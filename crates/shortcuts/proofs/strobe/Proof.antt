@@ -1,7 +1,7 @@
 -- `shortcuts::strobe` meets its contract.
 -- Assumes nothing.
 use borrow.Author.Needs.{needs}
-use Rattle.shortcuts.proofs.Sound.{act-strobe}
+use Rattle.shortcuts.proofs.Sound.{strobe-is}
 use Rattle.shortcuts.proofs.strobe.Statement.{statement}
 use Rattle.shortcuts.proofs.strobe.Tie as tie
 
@@ -10,4 +10,8 @@ strobe-spec =
     tie.close
     (tie.spec
     (λ c κs. search needs)
-    (λ c h. search act-strobe))
+    (λ c κs. search needs)
+    (λ c κs. search needs)
+    (λ c κs. search needs)
+    (λ c κs. search needs)
+    (λ c h. search strobe-is))

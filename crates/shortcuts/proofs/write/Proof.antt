@@ -1,7 +1,7 @@
 -- `shortcuts::write` meets its contract.
 -- Assumes nothing.
 use borrow.Author.Needs.{needs}
-use Rattle.shortcuts.proofs.Sound.{act-write}
+use Rattle.shortcuts.proofs.Sound.{write-is}
 use Rattle.shortcuts.proofs.write.Statement.{statement}
 use Rattle.shortcuts.proofs.write.Tie as tie
 
@@ -10,4 +10,4 @@ write-spec =
     tie.close
     (tie.spec
     (λ c κs. search needs)
-    (λ c h. search act-write))
+    (λ c h. search write-is))
