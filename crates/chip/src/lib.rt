@@ -47,7 +47,7 @@ pub fn sound(c: Chip) -> bool
     let a = c.a;
     let b = c.b;
     let watched = !(a.mode == 2);
-    port::sound(a, false, a_follows(c), true) & port::sound(b, true, b_follows(c), watched)
+    rest::sound(a, false, a_follows(c), true) & rest::sound(b, true, b_follows(c), watched)
 }
 
 // After an accepted event, at both ports: registers that follow take their lines, matches that became true make a port wait.
@@ -58,8 +58,8 @@ pub fn settle_chip(c: Chip) -> Chip
     let b = c.b;
     let watched = !(a.mode == 2);
     Chip {
-        a: port::settle(a, a_follows(c), true),
-        b: port::settle(b, b_follows(c), watched),
+        a: rest::settle(a, a_follows(c), true),
+        b: rest::settle(b, b_follows(c), watched),
     }
 }
 

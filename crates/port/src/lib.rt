@@ -1,8 +1,7 @@
 // One port of a PIO: its registers, and what each data access, strobe edge and line change makes of them. Document 01, "Data,
-// handshake, bits". What a port needs to know of the other port of its chip comes as a flag. Control words are in words.
+// handshake, bits". What a port needs to know of the other port of its chip comes as a flag. Control words are in words; match, settling and soundness in rest.
 ghost use mathlib.Core.Path.{_≡_};
-ghost use Rattle.port.specs.Rules.{written, shownOf, accessed, strobed, linesNow, drivenOf, levelsNow, matchNow, settled, woken, served, released, cleared, freshPort};
-ghost use Rattle.port.specs.Sound.{soundOf};
+ghost use Rattle.port.specs.Rules.{written, shownOf, accessed, strobed, linesNow, drivenOf, levelsNow, woken, served, released, cleared, freshPort};
 
 #[repr(C)]
 pub struct Port {
@@ -102,27 +101,6 @@ pub fn levels(p: Port) -> u8
     bits::levels(p.out, mask)
 }
 
-// Whether the lines match now, which they do only in mode 3 with no word awaited.
-pub fn matching(p: Port) -> bool
-    ensures { λ r. ⌜ r ≡ matchNow p ⌝ }
-{
-    (p.mode == 3) & (p.awaiting == 0) & bits::matches(p.select, p.mask, p.lines, p.high, p.all)
-}
-
-// After an accepted event. `follows`: the input register follows the lines; `watched`: the port's own match is on.
-pub fn settle(p: Port, follows: bool, watched: bool) -> Port
-    ensures { λ r. ⌜ r ≡ settled follows watched p ⌝ }
-{
-    let now = matching(p) & watched;
-    let mut q = p;
-    q.matched = now;
-    q.waiting = p.waiting | (now & !p.matched);
-    if follows {
-        q.input = p.lines;
-    }
-    q
-}
-
 // A fetch.
 pub fn wake(p: Port) -> Port
     ensures { λ r. ⌜ r ≡ woken p ⌝ }
@@ -192,18 +170,4 @@ pub fn fresh() -> Port
         awaiting: 0,
         matched: false,
     }
-}
-
-// What a sound board asks of one port. The faults are joined, not the merits: it takes fewer instructions.
-pub fn sound(p: Port, on_b: bool, follows: bool, watched: bool) -> bool
-    ensures { λ r. ⌜ r ≡ soundOf «on_b» follows watched p ⌝ }
-{
-    let fault = !(p.mode < 4)
-        | (on_b & (p.mode == 2))
-        | !(p.vector % 2 == 0)
-        | (p.live & !p.asked)
-        | (follows & !(p.input == p.lines))
-        | !(p.matched == (matching(p) & watched));
-    !(fault
-        | (!(p.awaiting < 3) | ((p.awaiting == 1) & !(p.mode == 3)) | (p.live & (p.awaiting == 2))))
 }

@@ -69,12 +69,12 @@ pub fn lines(c: Chip, on_b: bool, value: u8) -> Chip
         let q = port::set_lines(b, value);
         return Chip {
             a: a,
-            b: port::settle(q, chip::b_follows(c), !(a.mode == 2)),
+            b: rest::settle(q, chip::b_follows(c), !(a.mode == 2)),
         };
     }
     let q = port::set_lines(a, value);
     Chip {
-        a: port::settle(q, chip::a_follows(c), true),
+        a: rest::settle(q, chip::a_follows(c), true),
         b: b,
     }
 }
@@ -120,7 +120,7 @@ pub fn control_b(c: Chip, value: u8) -> Acted
     Acted {
         chip: Chip {
             a: a,
-            b: port::settle(q, f, !two),
+            b: rest::settle(q, f, !two),
         },
         code: 0,
         value: value,
@@ -148,8 +148,8 @@ pub fn control_a(c: Chip, value: u8) -> Acted
     let d = Chip { a: q, b: r };
     Acted {
         chip: Chip {
-            a: port::settle(q, chip::a_follows(d), true),
-            b: port::settle(r, chip::b_follows(d), !two),
+            a: rest::settle(q, chip::a_follows(d), true),
+            b: rest::settle(r, chip::b_follows(d), !two),
         },
         code: 0,
         value: value,

@@ -1,4 +1,4 @@
--- `port::settle` meets its contract: what `matching` answers is the match now, and the branch says which byte the input register holds.
+-- `rest::settle` meets its contract: what `matching` answers is the match now, and the branch says which byte the input register holds.
 -- Assumes nothing.
 use mathlib.Core.Path.{_≡_}
 use mathlib.Core.Bool.{Bool, _&&_, _||_, not}
@@ -6,11 +6,11 @@ use Prim.Native.Nat.{ℕ}
 use borrow.Author.Needs.{needs}
 use Rattle.bits.specs.Bits.{if_then_else_}
 use Rattle.bits.proofs.Tests.{tests}
 use Rattle.port.specs.Fields.{input-at, waiting-at, matched-at}
 use Rattle.port.specs.Rules.{matchNow, settled}
 use Rattle.port.specs.declared.Port.{Port}
-use Rattle.port.proofs.settle.Statement.{statement}
-use Rattle.port.proofs.settle.Tie as tie
+use Rattle.rest.proofs.settle.Statement.{statement}
+use Rattle.rest.proofs.settle.Tie as tie
 
 step :
     (p : Port) (follows watched m : Bool) (i : ℕ) → m ≡ matchNow p → i ≡ (if follows then p .lines else p .input)

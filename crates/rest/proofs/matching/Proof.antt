@@ -1,9 +1,9 @@
--- `port::matching` meets its contract.
+-- `rest::matching` meets its contract.
 -- Assumes nothing.
 use Rattle.port.specs.Rules.{matchNow}
 use borrow.Author.Needs.{needs}
-use Rattle.port.proofs.matching.Statement.{statement}
-use Rattle.port.proofs.matching.Tie as tie
+use Rattle.rest.proofs.matching.Statement.{statement}
+use Rattle.rest.proofs.matching.Tie as tie
 
 returns : tie.Need-returns
 unfolding matchNow

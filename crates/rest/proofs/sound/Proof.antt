@@ -1,4 +1,4 @@
--- `port::sound` meets its contract: what `matching` answers is the match now, and no fault is every merit.
+-- `rest::sound` meets its contract: what `matching` answers is the match now, and no fault is every merit.
 -- Assumes nothing.
 use mathlib.Core.Path.{_≡_, refl}
 use mathlib.Core.Bool.{Bool, true, false, _&&_, _||_, not, Bool·beq}
@@ -6,11 +6,11 @@ use Prim.Native.Nat.{_%_}
 use lib.Dec.{ltb}
 use borrow.Author.Needs.{needs}
 use Rattle.bits.specs.Bits.{_is_}
 use Rattle.port.specs.Rules.{matchNow}
 use Rattle.port.specs.Sound.{soundOf}
 use Rattle.port.specs.declared.Port.{Port}
-use Rattle.port.proofs.sound.Statement.{statement}
-use Rattle.port.proofs.sound.Tie as tie
+use Rattle.rest.proofs.sound.Statement.{statement}
+use Rattle.rest.proofs.sound.Tie as tie
 
 -- ---- Bool's own laws
 not-or : (a b : Bool) → not (a || b) ≡ (not a && not b)
