@@ -27,7 +27,7 @@ use Rattle.buffers.specs.Splice.{splice}
 use Rattle.board.specs.declared.Board.{Board}
 use Rattle.board.specs.declared.Plan.{Plan}
 use Rattle.board.specs.Board.{most, there, soundAll, soundBoard}
-use Rattle.board.specs.Step.{kindOf, placeOf, valueOf, lastOf}
+use Rattle.board.specs.Step.{kindOf, placeOf, valueOf}
 use Rattle.board.specs.Halves.{stirs, signalOf, earlyOf, earlyAt, single, acceptedPlan, planOf, withActed, changedOf, blank}
 use Rattle.board.proofs.Quick.{parts}
 use Rattle.board.proofs.Tables.{place-there}

@@ -10,7 +10,7 @@ use lib.ListN.{length, drop, getD, drop-of-length-le}
 use lib.Seq.{drop-cons}
 use borrow.Author.Tests.{le-leb, lt-leb}
 use Rattle.bits.specs.Bits.{if_then_else_}
-use Rattle.text.specs.Panel.{digit, numeral, valueOf, sizeIn}
+use Rattle.text.specs.Panel.{numeral, valueOf, sizeIn}
 
 -- the size that the digits so far, n, and the text behind them come to
 abbrev from : ℕ → List ℕ → ℕ
