@@ -1,0 +1,4 @@
+pub mod Gaps
+pub mod Lines
+pub mod Times
+pub mod Changes
