@@ -2,7 +2,7 @@
 -- Assumes nothing.
 use mathlib.Core.Path.{_≡_, refl, sym, ap, _∙_}
 use mathlib.Core.List.{List, [], _∷_}
-use Prim.Native.Nat.{ℕ, _+_, _*_, _≤_, _<_}
+use Prim.Native.Nat.{ℕ, _+_, _*_, _/_, _≤_, _<_}
 use native.Mathlib.Nat.{not-suc-le-zero, le-of-suc-le-suc, add-zero}
 use native.Mathlib.Omega.{arith}
 use lib.ListN.{length, take, drop, length-drop}
@@ -24,7 +24,8 @@ first (a ∷ b ∷ []) h = absurd (not-suc-le-zero (le-of-suc-le-suc (le-of-suc-
 first (a ∷ b ∷ c ∷ []) h = absurd (not-suc-le-zero (le-of-suc-le-suc (le-of-suc-le-suc (le-of-suc-le-suc h))))
 first (a ∷ b ∷ c ∷ d ∷ rest) h = refl
 
-next : (es : List ℕ) (i : ℕ) → 4 * i + 4 ≤ length es → records (drop (4 * i) es) ≡ take 4 (drop (4 * i) es) ∷ records (drop (4 * (i + 1)) es)
+-- before record i
+pub next : (es : List ℕ) (i : ℕ) → 4 * i + 4 ≤ length es → records (drop (4 * i) es) ≡ take 4 (drop (4 * i) es) ∷ records (drop (4 * (i + 1)) es)
 next es i h =
     let e : 4 * i + 4 ≡ 4 * (i + 1) = omega arith in
     rw (first (drop (4 * i) es) (omega (arith, length-drop (4 * i) es)), drop-drop, e)
@@ -37,8 +38,17 @@ short (a ∷ b ∷ []) h = refl
 short (a ∷ b ∷ c ∷ []) h = refl
 short (a ∷ b ∷ c ∷ d ∷ rest) h = absurd (not-suc-le-zero (le-of-suc-le-suc (le-of-suc-le-suc (le-of-suc-le-suc (le-of-suc-le-suc h)))))
 
-none : (es : List ℕ) (i : ℕ) → length es < 4 * i + 4 → records (drop (4 * i) es) ≡ []
+pub none : (es : List ℕ) (i : ℕ) → length es < 4 * i + 4 → records (drop (4 * i) es) ≡ []
 none es i h = short (drop (4 * i) es) (omega (arith, length-drop (4 * i) es))
+
+-- how many there are
+pub records-length : (es : List ℕ) → length (records es) ≡ length es / 4
+unfolding records
+records-length [] = refl
+records-length (a ∷ []) = refl
+records-length (a ∷ b ∷ []) = refl
+records-length (a ∷ b ∷ c ∷ []) = refl
+records-length (a ∷ b ∷ c ∷ d ∷ rest) = let e = records-length rest in omega (arith, e)
 
 -- ---- where the loop stands before record i, with the board that its locals hold: the rest of the run, from here, comes to the whole run
 module _ (es old : List ℕ) (start : ℕ) (b₀ : Board) (n : ℕ) where

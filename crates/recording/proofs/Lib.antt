@@ -1,0 +1,6 @@
+pub mod Shots
+pub mod Bounds
+pub mod Advances
+pub mod Fronts
+pub mod Scans
+pub mod Ways
