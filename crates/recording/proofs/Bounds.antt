@@ -1,12 +1,13 @@
 -- How long a text can be: 39 bytes for each record, and the header.
 -- Assumes nothing.
 use mathlib.Core.Path.{_≡_, refl, sym, ap, _∙_}
-use mathlib.Core.Bool.{Bool, true, false}
+use mathlib.Core.Bool.{Bool, true, false, not}
 use mathlib.Core.List.{List, [], _∷_, _++_}
-use Prim.Native.Nat.{ℕ, zero, suc, _+_, _*_, _/_, _^_, _≤_, _<_}
+use Prim.Native.Nat.{ℕ, zero, suc, _+_, _*_, _/_, _%_, _^_, _≤_, _<_}
 use native.Mathlib.Omega.{arith}
 use lib.ListN.{length, length-append, take}
-use borrow.Author.Tests.{eqb-true, eqb-false}
+use lib.Dec.{ltb}
+use borrow.Author.Tests.{eqb-true, eqb-false, ltb-true, ltb-false}
 use Rattle.bits.specs.Bits.{if_then_else_, _is_}
 use Rattle.bits.proofs.Logic.{byCases}
 use Rattle.buffers.specs.Digits.{digitsOf}
@@ -15,14 +16,16 @@ use Rattle.port.specs.declared.Port.{Port}
 use Rattle.chip.specs.declared.Chip.{Chip}
 use Rattle.chain.specs.Chain.{flat}
 use Rattle.board.specs.declared.Board.{Board}
-use Rattle.board.specs.Step.{stepOf}
+use Rattle.board.specs.Board.{soundBoard}
+use Rattle.board.specs.Step.{line, verdict, stepOf}
+use Rattle.board.proofs.Ways.{on}
 use Rattle.records.specs.Records.{records}
 use Rattle.records.proofs.Turns.{records-length}
 use Rattle.frames.specs.Stamps.{stampsOf, timesOf, gapOf, gapIn}
 use Rattle.frames.proofs.Gaps.{stamps-length}
 use Rattle.frames.specs.Values.{readies, valuesOf}
 use Rattle.frames.specs.Frames.{identifier, header, timeLine, valueLine, changedLines, laterFrame}
-use Rattle.recording.specs.Wave.{shotOf, shotsOf, merged, laterFrames, frames, waveText}
+use Rattle.recording.specs.Wave.{shotOf, shotsOf, merged, laterFrames, frames, waveText, refusalOf, waveRefusal, exportedOf}
 use Rattle.recording.proofs.Shots.{shows, hides, unseen, first-is}
 
 -- ---- one time
@@ -114,3 +117,29 @@ pub wave-least : (b : Board) (events stamps : List ℕ) → 257 ≤ length (wave
 unfolding waveText
 wave-least b events stamps =
     omega (arith, header-long, length-append header (frames (merged (shotsOf b (records events) (timesOf 0 (stampsOf stamps))))))
+
+-- ---- with that room no export is refused with 40
+-- a 40 comes last: there are not too many records, each has its stamp, and the text is longer than the buffer
+last : (p q r s t : Bool) → verdict (line p 35 ∷ line q 32 ∷ line r 36 ∷ line s 41 ∷ line t 40 ∷ []) ≡ 40 → (r ≡ false) × ((s ≡ false) × (t ≡ true))
+last true q r s t e = absurd (omega (arith, e))
+last false true r s t e = absurd (omega (arith, e))
+last false false true s t e = absurd (omega (arith, e))
+last false false false true t e = absurd (omega (arith, e))
+last false false false false true e = (refl, (refl, refl))
+last false false false false false e = absurd (omega (arith, e))
+
+late : (b : Board) (events stamps : List ℕ) (room : ℕ) → 257 + 39 * (length events / 4) ≤ room → waveRefusal b events stamps room ≡ 40 → ⊥
+unfolding refusalOf
+late b events stamps room h q =
+    let long = length (waveText b events stamps) in
+    let tests = last (not (soundBoard b)) (not (length events % 4 is 0)) (ltb 16384 (length events / 4)) (not (length stamps is 2 * (length events / 4))) (ltb room long) q in
+    let counted = ltb-false 16384 (length events / 4) (tests .0) in
+    let stamped = eqb-true (length stamps) (2 * (length events / 4)) (on _ (tests .1 .0)) in
+    absurd (omega (arith, h, ltb-true room long (tests .1 .1), wave-bound b events stamps counted stamped))
+
+pub never-forty : (b : Board) (events stamps : List ℕ) (room : ℕ) → 257 + 39 * (length events / 4) ≤ room → exportedOf b events stamps room .code ≡ 40 → ⊥
+unfolding exportedOf if_then_else_
+never-forty b events stamps room h e =
+    byCases (waveRefusal b events stamps room is 0)
+    (λ z. absurd (omega (arith, rw z at e)))
+    (λ z. late b events stamps room h (rw z at e))

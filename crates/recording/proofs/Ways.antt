@@ -67,15 +67,6 @@ sooner false false false true t u f z = refl
 sooner false false false false true u f z = rw (f refl)
 sooner false false false false false u f z = absurd (z refl)
 
--- a 40 comes last: there are not too many records, each has its stamp, and the text is longer than the buffer
-last : (p q r s t : Bool) → verdict (line p 35 ∷ line q 32 ∷ line r 36 ∷ line s 41 ∷ line t 40 ∷ []) ≡ 40 → (r ≡ false) × ((s ≡ false) × (t ≡ true))
-last true q r s t e = absurd (omega (arith, e))
-last false true r s t e = absurd (omega (arith, e))
-last false false true s t e = absurd (omega (arith, e))
-last false false false true t e = absurd (omega (arith, e))
-last false false false false true e = (refl, (refl, refl))
-last false false false false false e = absurd (omega (arith, e))
-
 -- ---- the ways out of `export`
 pub sound-is : (b : Board) (l : Look) → l ≡ lookOf (b .size) (b .chips) → l .sound ≡ soundBoard b
 unfolding lookOf soundBoard
@@ -91,18 +82,11 @@ module _ (b : Board) (es ss old : List ℕ) (l : Look) (i : l ≡ lookOf (b .siz
   text = length (waveText b es ss)
 
   abbrev Out : Exported → List ℕ → Type 0
-  Out r out = (r ≡ exportedOf b es ss (length old)) × ((out ≡ pageOf b es ss old) × (257 + 39 * (length es / 4) ≤ length old → r .code ≡ 40 → ⊥))
-
-  -- with room for the longest text there is no 40
-  no-forty : 257 + 39 * (length es / 4) ≤ length old → waveRefusal b es ss (length old) ≡ 40 → ⊥
-  unfolding refusalOf
-  no-forty h e =
-      let late = last (not (soundBoard b)) (not (length es % 4 is 0)) (ltb 16384 (length es / 4)) (not (length ss is 2 * (length es / 4))) (ltb (length old) text) e in
-      absurd (omega (arith, h, ltb-true (length old) text (late .1 .1), wave-bound b es ss (ltb-false 16384 (length es / 4) (late .0)) (eqb-true (length ss) (2 * (length es / 4)) (on _ (late .1 .0)))))
+  Out r out = (r ≡ exportedOf b es ss (length old)) × (out ≡ pageOf b es ss old)
 
   refused : (code : ℕ) → (code ≡ 0 → ⊥) → code ≡ waveRefusal b es ss (length old) → Out (record { code = code; length = 0; board = b }) old
   unfolding exportedOf pageOf if_then_else_
-  refused code z e = (rw (← e, ne-eqb code 0 z), (rw (← e, ne-eqb code 0 z), λ h q. no-forty h (sym e ∙ q)))
+  refused code z e = (rw (← e, ne-eqb code 0 z), rw (← e, ne-eqb code 0 z))
 
   pub early-refused : (code : ℕ) → code ≡ refusalOf (l .sound) (length es) (length ss) 257 (length old) → (code ≡ 0 → ⊥) → Out (record { code = code; length = 0; board = b }) old
   unfolding refusalOf
@@ -123,7 +107,7 @@ module _ (b : Board) (es ss old : List ℕ) (l : Look) (i : l ≡ lookOf (b .siz
     unfolding exportedOf pageOf if_then_else_
     exported h after n out e f w =
         let none = none-refused (soundBoard b) (length es) (length ss) text (length old) quiet (g .1 .0) (g .1 .1 .0) (g .1 .1 .1 .0) h .0 in
-        (rw (← none, e, f), (rw (← none, w (omega (arith, h, f))), λ r q. absurd (omega (arith, q))))
+        (rw (← none, e, f), rw (← none, w (omega (arith, h, f))))
 
     -- a buffer that needs no measure
     pub roomy : 257 + 39 * (length es / 4) ≤ length old → text ≤ length old

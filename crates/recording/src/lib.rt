@@ -176,7 +176,6 @@ fn scan(board: Board, seen: Look, events: &[u8], stamps: &[u8], out: &mut [u8]) 
 pub fn export(board: Board, events: &[u8], stamps: &[u8], out: &mut [u8]) -> Exported
     ensures { λ r. ⌜ r ≡ exportedOf board (now (events .entry)) (now (stamps .entry)) (length (now (out .entry))) ⌝ }
     ensures { λ _. ⌜ now (out .exit) ≡ pageOf board (now (events .entry)) (now (stamps .entry)) (now (out .entry)) ⌝ }
-    ensures { λ r. ⌜ (257 + 39 * (length (now (events .entry)) / 4) ≤ length (now (out .entry)) → r .code ≡ 40 → ⊥) ⌝ }
 {
     let chips = board.chips;
     let seen = board::look_over(board.size, chips);
