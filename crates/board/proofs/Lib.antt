@@ -1,7 +1,6 @@
 pub mod There
 pub mod Quick
 pub mod Loops
-pub mod Plans
 pub mod Ways
 pub mod Tables
 pub mod Ports

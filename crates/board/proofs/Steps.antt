@@ -1,5 +1,5 @@
--- The step of any board, sound or not, from its halves; and the driven lines. These are the laws that the code's last functions cite,
--- and those that a run and a lent step build on.
+-- The step of any board, sound or not, from its halves; and the driven lines. `driven_lines` cites these laws, and so do the step, a
+-- run and a lent step, in the crates above.
 -- Assumes nothing.
 use mathlib.Core.Path.{_≡_, refl, sym, ap, _∙_}
 use mathlib.Core.Bool.{Bool, true, false, _&&_, _||_, not, true≢false}

@@ -84,7 +84,7 @@ fn show_record(board: Board, number: u64, event: &[u8], out: &mut [u8], at: usiz
     ensures { λ r. ⌜ Wrote (now (out .entry)) at (pageOf number (stepOf board (now (event .entry)))) (now (out .exit)) (r .end) ⌝ }
     ensures { λ r. ⌜ r .end ≤ at + 3465 ⌝ }
 {
-    let r = board::step(board, event);
+    let r = steps::step(board, event);
     let a = r.answer;
     let answer = [a.code, a.place, a.value, a.request];
     let next = text::put_answers(out, at, &answer, number);

@@ -55,7 +55,7 @@ fn plan_seen(size: u8, decoder: Decoder, seen: Look, event: &[u8]) -> Plan
     let marks = seen.marks;
     if seen.sound {
         let request = board::signal(marks);
-        return board::step_reads(size, decoder, marks, seen.due, request, event);
+        return plans::step_reads(size, decoder, marks, seen.due, request, event);
     }
     if event.len() != 4 {
         return plan_refusal(decoder, marks, 32, 0, 0);
@@ -72,13 +72,13 @@ pub fn step(board: &mut Board, event: &[u8]) -> Answer
     let seen = board::look_over(board.size, board.chips);
     let w = plan_seen(board.size, board.decoder, seen, event);
     if w.whole {
-        let s = board::step_chips(board.size, board.chips, w);
+        let s = steps::step_chips(board.size, board.chips, w);
         board.chips = s.chips;
         board.decoder = w.decoder;
         return s.answer;
     } else {
         let k = w.chip;
-        let r = board::step_chip(board.chips[k], w);
+        let r = steps::step_chip(board.chips[k], w);
         board.chips[k] = r.chip;
         board.decoder = w.decoder;
         return r.answer;

@@ -67,10 +67,10 @@ fn advance(size: u8, stand: Stand, event: &[u8]) -> Stand
     let mut chips = stand.chips;
     let marks = stand.marks;
     let due = stand.due;
-    let w = board::step_reads(size, stand.decoder, marks, due, stand.request, event);
+    let w = plans::step_reads(size, stand.decoder, marks, due, stand.request, event);
     let decoder = w.decoder;
     if w.whole {
-        let s = board::step_chips(size, chips, w);
+        let s = steps::step_chips(size, chips, w);
         let all = s.chips;
         let fresh = s.marks;
         return Stand {
@@ -92,7 +92,7 @@ fn advance(size: u8, stand: Stand, event: &[u8]) -> Stand
     }
     let k = w.chip;
     let c = chips[k];
-    let r = board::step_chip(c, w);
+    let r = steps::step_chip(c, w);
     let d = r.chip;
     chips[k] = d;
     let fresh = r.marks;

@@ -22,7 +22,8 @@ use Rattle.board.specs.Board.{most, soundBoard}
 use Rattle.board.specs.Step.{kindOf, placeOf, valueOf, lastOf}
 use Rattle.board.specs.Halves.{signalOf, earlyOf, fetchPlan, acceptedPlan, planOf}
 use Rattle.board.proofs.Quick.{parts}
-use Rattle.board.proofs.Ways.{off, set-beyond}
+use Rattle.board.proofs.Ways.{off}
+use Rattle.steps.proofs.Ways.{set-beyond}
 use Rattle.records.specs.Fast.{idlesOf}
 use Rattle.records.proofs.Turns.{Running}
 use Rattle.records.proofs.Kept.{Kept}

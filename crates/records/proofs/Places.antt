@@ -31,8 +31,8 @@ use Rattle.board.specs.Step.{kindOf, placeOf, valueOf}
 use Rattle.board.specs.Halves.{stirs, signalOf, earlyOf, earlyAt, single, acceptedPlan, planOf, withActed, changedOf, blank}
 use Rattle.board.proofs.Quick.{parts}
 use Rattle.board.proofs.Tables.{place-there}
-use Rattle.board.proofs.Ways.{touch-act}
 use Rattle.board.proofs.Halves.{size-fits}
+use Rattle.steps.proofs.Ways.{touch-act}
 use Rattle.records.proofs.Turns.{Running}
 use Rattle.records.proofs.Kept.{Kept}
 use Rattle.records.proofs.Ways.{part-is, Going, single-turn}

@@ -82,7 +82,7 @@ pub fn run_records(
         i += 1;
         // An event of kinds 3 to 7 that no early refusal stops: each kind changes its chip where it lies.
         if kind >= 3 {
-            if board::early_refusal(size, kind, place, value, last) == 0 {
+            if plans::early_refusal(size, kind, place, value, last) == 0 {
                 let k = (place / 2 % 4) as usize;
                 let on_b = place % 2 == 1;
                 let mut code: u8 = 0;
@@ -139,11 +139,11 @@ pub fn run_records(
             }
         }
         // All else goes through the two halves of the step.
-        let w = board::step_reads(size, decoder, marks, due, request, &events[at..at + 4]);
+        let w = plans::step_reads(size, decoder, marks, due, request, &events[at..at + 4]);
         let next = w.decoder;
         decoder = next;
         if w.whole {
-            let s = board::step_chips(size, chips, w);
+            let s = steps::step_chips(size, chips, w);
             let all = s.chips;
             chips = all;
             let ms = s.marks;
@@ -160,7 +160,7 @@ pub fn run_records(
         }
         let k = w.chip;
         let c = chips[k];
-        let r = board::step_chip(c, w);
+        let r = steps::step_chip(c, w);
         let d = r.chip;
         chips[k] = d;
         let ms = r.marks;

@@ -1,7 +1,7 @@
 -- `board::signal` meets its contract.
 -- Assumes nothing.
 use borrow.Author.Needs.{needs}
-use Rattle.board.proofs.Plans.{signal-none, signal-some}
+use Rattle.board.proofs.Ways.{signal-none, signal-some}
 use Rattle.board.proofs.signal.Statement.{statement}
 use Rattle.board.proofs.signal.Tie as tie
 

@@ -78,14 +78,14 @@ use Rattle.pio.proofs.plan_seen as plans
 use Rattle.pio.proofs.plan_seen.Symbol as plans-def
 use Rattle.pio.proofs.plan_seen.Symbol.{name as #plans}
 use Rattle.pio.proofs.plan_seen.Met as plans-thm
-use Rattle.board.proofs.step_chip as single
-use Rattle.board.proofs.step_chip.Symbol as single-def
-use Rattle.board.proofs.step_chip.Symbol.{name as #single}
-use Rattle.board.proofs.step_chip.Met as single-thm
-use Rattle.board.proofs.step_chips as every
-use Rattle.board.proofs.step_chips.Symbol as every-def
-use Rattle.board.proofs.step_chips.Symbol.{name as #every}
-use Rattle.board.proofs.step_chips.Met as every-thm
+use Rattle.steps.proofs.step_chip as single
+use Rattle.steps.proofs.step_chip.Symbol as single-def
+use Rattle.steps.proofs.step_chip.Symbol.{name as #single}
+use Rattle.steps.proofs.step_chip.Met as single-thm
+use Rattle.steps.proofs.step_chips as every
+use Rattle.steps.proofs.step_chips.Symbol as every-def
+use Rattle.steps.proofs.step_chips.Symbol.{name as #every}
+use Rattle.steps.proofs.step_chips.Met as every-thm
 use Rattle.pio.proofs.Claims.{holds, fails, says-two}
 use Rattle.pio.proofs.Seen.{seen-first}
 use Rattle.pio.proofs.Rows.{as-records}
@@ -336,5 +336,5 @@ step-spec 𝓤 H 𝓜 𝓖 𝓡 =
     (step-meets 𝓤 H (𝓖 .A) (givenOf 𝓤 H 𝓜 𝓖) (𝓜 .mem) (𝓡 .run) (tablesOf 𝓤 H 𝓜 (tables 𝓤 H 𝓜 𝓡 code.env))
     (cited 𝓤 H (Looks 𝓤 H (𝓖 .A) (𝓜 .mem) (𝓡 .run)) 𝓜 𝓡 code.env #looks looks-def.routine code.calls-board·look-over (looks-thm.met 𝓤 H 𝓜 𝓖 𝓡))
     (cited 𝓤 H (Plans 𝓤 H (𝓖 .A) (𝓜 .mem) (𝓡 .run)) 𝓜 𝓡 code.env #plans plans-def.routine code.calls-pio·plan-seen (plans-thm.met 𝓤 H 𝓜 𝓖 𝓡))
-    (cited 𝓤 H (Single 𝓤 H (𝓖 .A) (𝓜 .mem) (𝓡 .run)) 𝓜 𝓡 code.env #single single-def.routine code.calls-board·step-chip (single-thm.met 𝓤 H 𝓜 𝓖 𝓡))
-    (cited 𝓤 H (Every 𝓤 H (𝓖 .A) (𝓜 .mem) (𝓡 .run)) 𝓜 𝓡 code.env #every every-def.routine code.calls-board·step-chips (every-thm.met 𝓤 H 𝓜 𝓖 𝓡)))
+    (cited 𝓤 H (Single 𝓤 H (𝓖 .A) (𝓜 .mem) (𝓡 .run)) 𝓜 𝓡 code.env #single single-def.routine code.calls-steps·step-chip (single-thm.met 𝓤 H 𝓜 𝓖 𝓡))
+    (cited 𝓤 H (Every 𝓤 H (𝓖 .A) (𝓜 .mem) (𝓡 .run)) 𝓜 𝓡 code.env #every every-def.routine code.calls-steps·step-chips (every-thm.met 𝓤 H 𝓜 𝓖 𝓡)))
