@@ -45,7 +45,7 @@ fn case(line: &str) -> Case {
     case
 }
 
-fn record(word: &str) -> [u8; 4] {
+pub fn record(word: &str) -> [u8; 4] {
     let mut bytes = [0; 4];
     for (at, number) in word.split(',').enumerate() {
         bytes[at] = number.parse().expect(word);

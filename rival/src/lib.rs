@@ -1,8 +1,9 @@
 //! A second program for the board of Z80 PIOs, written from the documents alone and apart from the
 //! product, so that random sessions of the two can be compared.
 //!
-//! The rules are in `port`, `board` and `step`, in that order. They are plain on purpose: after every
-//! event every place is visited, and nothing is remembered that could be looked up.
+//! The rules are in `port`, `board` and `step`, in that order, and `wave` prints a recording. They are
+//! plain on purpose: after every event every place is visited, and nothing is remembered that could be
+//! looked up.
 
 pub mod board;
 pub mod cases;
@@ -10,6 +11,7 @@ pub mod generator;
 pub mod port;
 pub mod random;
 pub mod step;
+pub mod wave;
 
 #[cfg(feature = "compare")]
 pub mod bench;
@@ -26,3 +28,4 @@ compile_error!("`library` and `mirror` both give the functions of the library: c
 pub use board::{Board, PLACES};
 pub use port::Port;
 pub use step::{driven, fresh, run, step};
+pub use wave::wave;
