@@ -1,5 +1,6 @@
 #!/usr/bin/env bash
-# bench.sh: what an event costs, in one table: the run, the lent step, the rival, and a hash of the bytes as the floor.
+# bench.sh: what an event costs (the run, the lent step, the rival) and what a record of an export costs (the product, the rival), in two
+# tables with a hash of the bytes as the floor.
 set -eu
 cd "$(dirname "$0")/.."
 [ -f target/staticlib/libpio.a ] || rt staticlib pio

@@ -1,5 +1,5 @@
-//! How long an event takes: a table of two workloads, each with the cost of merely hashing its bytes as
-//! the floor, the product by runs and by steps, and the rival.
+//! How long an event takes, and how long a record of an export: for each a table of two workloads, with
+//! the cost of merely hashing the bytes as the floor, the product in its several ways, and the rival.
 
 use std::hint::black_box;
 use std::time::Instant;
@@ -8,10 +8,17 @@ use crate::board::{Board, CHIPS, ED_OPEN};
 use crate::generator::Generator;
 use crate::library;
 use crate::random::Random;
-use crate::step::{fresh, step, FETCH};
+use crate::step::{fresh, step, DONE, FETCH};
+use crate::wave::{longest, wave, MOST_RECORDS};
 
 const RECORDS: usize = 1 << 20;
 const PASSES: usize = 7;
+
+/// An export is short, so it is tried more often.
+const EXPORT_PASSES: usize = 200;
+
+/// The most microseconds between two records of an export.
+const LARGEST_GAP: usize = 200;
 
 /// Opcodes of an ordinary program: loads, jumps, arithmetic, calls.
 const OPCODES: [u8; 24] = [
@@ -61,46 +68,60 @@ fn hash(bytes: &[u8]) -> u64 {
     hash
 }
 
-/// The best of several passes, in nanoseconds an event.
-fn best(mut pass: impl FnMut()) -> f64 {
+/// The best of several passes over that many records, in nanoseconds a record.
+fn best(passes: usize, records: usize, mut pass: impl FnMut()) -> f64 {
     let mut best = f64::INFINITY;
-    for _ in 0..PASSES {
+    for _ in 0..passes {
         let begin = Instant::now();
         pass();
-        best = best.min(begin.elapsed().as_nanos() as f64 / RECORDS as f64);
+        best = best.min(begin.elapsed().as_nanos() as f64 / records as f64);
     }
     best
 }
 
-/// Prints the table; gives an error when the product's answers are not the rival's.
+/// Prints the tables; gives an error when the product's answers or texts are not the rival's.
 pub fn bench() -> Result<(), String> {
-    println!(
-        "{:<14} {:<26} {:>9} {:>8}",
-        "workload", "what", "ns/event", "ratio"
-    );
-    for (name, records) in [("station's day", stations_day()), ("storm", storm())] {
-        workload(name, &records)?;
+    let workloads = [("station's day", stations_day()), ("storm", storm())];
+    head("ns/event");
+    for (name, records) in &workloads {
+        events(name, records)?;
+    }
+    head("ns/record");
+    for (name, records) in &workloads {
+        export(name, &records[..4 * MOST_RECORDS])?;
     }
     Ok(())
 }
 
-fn workload(name: &str, records: &[u8]) -> Result<(), String> {
+fn head(unit: &str) {
+    println!("{:<14} {:<27} {unit:>9} {:>8}", "workload", "what", "ratio");
+}
+
+/// One line for each way; the first is the floor.
+fn print(name: &str, times: &[(&str, f64)]) {
+    let floor = times[0].1;
+    for (what, time) in times {
+        println!("{name:<14} {what:<27} {time:>9.2} {:>8.2}", time / floor);
+    }
+}
+
+fn events(name: &str, records: &[u8]) -> Result<(), String> {
     let start = library::encode(&fresh(CHIPS).1);
     // Filled with something, so that every page of the buffers is there before the clock runs.
     let mut by_run = vec![1; records.len()];
     let mut by_step = vec![1; records.len()];
     let mut by_rival = vec![1; records.len()];
 
-    let floor = best(|| {
+    let floor = best(PASSES, RECORDS, || {
         black_box(hash(black_box(records)));
     });
-    let run = best(|| {
+    let run = best(PASSES, RECORDS, || {
         let mut board = start;
         let mut count = 0;
         library::run(&mut board, black_box(records), &mut by_run, 0, &mut count);
         black_box(&by_run);
     });
-    let steps = best(|| {
+    let steps = best(PASSES, RECORDS, || {
         let mut board = start;
         for (event, answer) in black_box(records)
             .chunks_exact(4)
@@ -110,7 +131,7 @@ fn workload(name: &str, records: &[u8]) -> Result<(), String> {
         }
         black_box(&by_step);
     });
-    let rival = best(|| {
+    let rival = best(PASSES, RECORDS, || {
         let mut board = fresh(CHIPS).1;
         for (event, answer) in black_box(records)
             .chunks_exact(4)
@@ -121,18 +142,79 @@ fn workload(name: &str, records: &[u8]) -> Result<(), String> {
         black_box(&by_rival);
     });
 
-    for (what, time) in [
+    let times = [
         ("hash of the bytes (floor)", floor),
         ("product, one run", run),
         ("product, step by step", steps),
         ("rival, step by step", rival),
-    ] {
-        println!("{name:<14} {what:<26} {time:>9.2} {:>8.2}", time / floor);
-    }
+    ];
+    print(name, &times);
     if by_run != by_rival || by_step != by_rival {
         return Err(format!(
             "{name}: the answers of the product are not those of the rival"
         ));
     }
     Ok(())
+}
+
+/// A stamp for each record, low byte first, from a counter that goes on by random gaps.
+fn stamps(count: usize) -> Vec<u8> {
+    let mut random = Random::new(200);
+    let mut stamp: u16 = 0;
+    let mut stamps = Vec::with_capacity(2 * count);
+    for _ in 0..count {
+        stamp = stamp.wrapping_add(random.below(LARGEST_GAP + 1) as u16);
+        stamps.extend(stamp.to_le_bytes());
+    }
+    stamps
+}
+
+fn export(name: &str, records: &[u8]) -> Result<(), String> {
+    let count = records.len() / 4;
+    let stamps = stamps(count);
+    let mut text = Ok(String::new());
+    let rival = best(EXPORT_PASSES, count, || {
+        let mut board = fresh(CHIPS).1;
+        text = wave(&mut board, black_box(records), &stamps, longest(count));
+    });
+    let text = text.map_err(|code| format!("{name}: the rival refuses the export with {code}"))?;
+
+    let floor = best(EXPORT_PASSES, count, || {
+        black_box((hash(black_box(records)), hash(black_box(&stamps))));
+    });
+    let roomy = product_export(name, records, &stamps, &text, longest(count))?;
+    let exact = product_export(name, records, &stamps, &text, text.len())?;
+    let times = [
+        ("hash of the bytes (floor)", floor),
+        ("product, export", roomy),
+        ("product, export, exact room", exact),
+        ("rival, export", rival),
+    ];
+    print(name, &times);
+    Ok(())
+}
+
+/// The product's export into a buffer of that length, compared with the rival's text.
+fn product_export(
+    name: &str,
+    records: &[u8],
+    stamps: &[u8],
+    text: &str,
+    room: usize,
+) -> Result<f64, String> {
+    let start = library::encode(&fresh(CHIPS).1);
+    let mut buffer = vec![1; room];
+    let mut given = (DONE, 0);
+    let time = best(EXPORT_PASSES, records.len() / 4, || {
+        let mut board = start;
+        let records = black_box(records);
+        given.0 = library::wave(&mut board, records, stamps, &mut buffer, &mut given.1);
+        black_box(&buffer);
+    });
+    if given != (DONE, text.len()) || buffer[..given.1] != *text.as_bytes() {
+        return Err(format!(
+            "{name}: the text of the product with room for {room} bytes is not that of the rival"
+        ));
+    }
+    Ok(time)
 }

@@ -14,11 +14,15 @@ pub mod step;
 pub mod wave;
 
 #[cfg(feature = "compare")]
+mod agreement;
+#[cfg(feature = "compare")]
 pub mod bench;
 #[cfg(feature = "compare")]
 pub mod library;
 #[cfg(feature = "mirror")]
 mod mirror;
+#[cfg(feature = "compare")]
+pub mod recordings;
 #[cfg(feature = "compare")]
 pub mod sessions;
 

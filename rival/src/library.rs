@@ -64,6 +64,16 @@ extern "C" {
         records: *mut usize,
     ) -> u8;
     fn pio_lines(board: *mut Board, place: usize, lines: *mut u8, lines_len: usize) -> u8;
+    fn pio_wave(
+        board: *mut Board,
+        events: *const u8,
+        events_len: usize,
+        stamps: *const u8,
+        stamps_len: usize,
+        text: *mut u8,
+        text_len: usize,
+        written: *mut usize,
+    ) -> u8;
 }
 
 /// The functions work on one board at a time and keep nothing, so lending them these references is all
@@ -107,6 +117,27 @@ pub fn run(
 
 pub fn lines(board: &mut Board, place: usize, lines: &mut [u8]) -> u8 {
     unsafe { pio_lines(board, place, lines.as_mut_ptr(), lines.len()) }
+}
+
+pub fn wave(
+    board: &mut Board,
+    events: &[u8],
+    stamps: &[u8],
+    text: &mut [u8],
+    written: &mut usize,
+) -> u8 {
+    unsafe {
+        pio_wave(
+            board,
+            events.as_ptr(),
+            events.len(),
+            stamps.as_ptr(),
+            stamps.len(),
+            text.as_mut_ptr(),
+            text.len(),
+            written,
+        )
+    }
 }
 
 fn encode_port(port: &port::Port) -> Port {

@@ -1,18 +1,20 @@
 //! The comparison with the product's library:
 //!
 //!     rival sessions [COUNT [SEED]]   random sessions on both, event by event
-//!     rival bench                     how long an event takes
+//!     rival recordings [COUNT [SEED]] random recordings exported by both
+//!     rival bench                     how long an event and a record of an export take
 //!     rival unsound SIZE < records    the library's answers on the board that a fresh call with any size
 //!                                     hands back
 
 use std::io::{self, Read};
 use std::process::ExitCode;
 
-use rival::sessions::{sessions, USUAL_COUNT, USUAL_SEED};
-use rival::{bench, fresh, library};
+use rival::{bench, fresh, library, recordings, sessions};
 
-const USAGE: &str =
-    "usage: rival sessions [COUNT [SEED]] | rival bench | rival unsound SIZE < records";
+const USAGE: &str = "usage: rival sessions [COUNT [SEED]] | rival recordings [COUNT [SEED]] | \
+                     rival bench | rival unsound SIZE < records";
+
+const USUAL_SEED: u64 = 1;
 
 fn main() -> ExitCode {
     let arguments: Vec<String> = std::env::args().skip(1).collect();
@@ -22,9 +24,12 @@ fn main() -> ExitCode {
         .map(|word| word.parse().ok())
         .collect();
     let outcome = match (arguments.first().map(String::as_str), &numbers[..]) {
-        (Some("sessions"), []) => compare(USUAL_COUNT, USUAL_SEED),
-        (Some("sessions"), [Some(count)]) => compare(*count, USUAL_SEED),
-        (Some("sessions"), [Some(count), Some(seed)]) => compare(*count, *seed),
+        (Some("sessions"), []) => compare_sessions(sessions::USUAL_COUNT, USUAL_SEED),
+        (Some("sessions"), [Some(count)]) => compare_sessions(*count, USUAL_SEED),
+        (Some("sessions"), [Some(count), Some(seed)]) => compare_sessions(*count, *seed),
+        (Some("recordings"), []) => compare_recordings(recordings::USUAL_COUNT, USUAL_SEED),
+        (Some("recordings"), [Some(count)]) => compare_recordings(*count, USUAL_SEED),
+        (Some("recordings"), [Some(count), Some(seed)]) => compare_recordings(*count, *seed),
         (Some("bench"), []) => bench::bench(),
         (Some("unsound"), [Some(size)]) => unsound(*size as usize),
         _ => {
@@ -41,9 +46,22 @@ fn main() -> ExitCode {
     }
 }
 
-fn compare(count: u64, seed: u64) -> Result<(), String> {
-    let events = sessions(count, seed)?;
+fn compare_sessions(count: u64, seed: u64) -> Result<(), String> {
+    let events = sessions::sessions(count, seed)?;
     println!("sessions: {count} sessions, {events} events agree");
+    Ok(())
+}
+
+fn compare_recordings(count: u64, seed: u64) -> Result<(), String> {
+    let tally = recordings::recordings(count, seed)?;
+    for (code, times) in &tally.refused {
+        println!("refused with {code}: {times}");
+    }
+    let refused: u64 = tally.refused.values().sum();
+    println!(
+        "recordings: {count} recordings, {} records, {refused} refused agree",
+        tally.records
+    );
     Ok(())
 }
 

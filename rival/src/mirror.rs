@@ -5,7 +5,8 @@ use std::slice;
 
 use crate::board::{self, PLACES};
 use crate::library::{encode, Board, Port};
-use crate::{port, step};
+use crate::step::{self, DONE};
+use crate::{port, wave};
 
 fn decode_port(port: &Port) -> port::Port {
     port::Port {
@@ -93,4 +94,33 @@ unsafe extern "C" fn pio_lines(
     let (code, levels, mask) = step::driven(&decode(&*board), place);
     slice::from_raw_parts_mut(lines, lines_len)[..2].copy_from_slice(&[levels, mask]);
     code
+}
+
+#[no_mangle]
+unsafe extern "C" fn pio_wave(
+    board: *mut Board,
+    events: *const u8,
+    events_len: usize,
+    stamps: *const u8,
+    stamps_len: usize,
+    text: *mut u8,
+    text_len: usize,
+    written: *mut usize,
+) -> u8 {
+    let mut moved = decode(&*board);
+    let events = slice::from_raw_parts(events, events_len);
+    let stamps = slice::from_raw_parts(stamps, stamps_len);
+    let text = slice::from_raw_parts_mut(text, text_len);
+    match wave::wave(&mut moved, events, stamps, text_len) {
+        Ok(given) => {
+            text[..given.len()].copy_from_slice(given.as_bytes());
+            *board = encode(&moved);
+            *written = given.len();
+            DONE
+        }
+        Err(code) => {
+            *written = 0;
+            code
+        }
+    }
 }

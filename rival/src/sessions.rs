@@ -2,6 +2,9 @@
 //! of every place, the decoder and the driven lines must agree; runs must agree with steps; and boards
 //! that are not sound, wrong lengths and wrong sizes must be refused alike.
 
+use crate::agreement::{
+    board_text, event_text, fewer, same, same_board, Agreement, BEHIND, FILLING,
+};
 use crate::board::{Board, PLACES};
 use crate::generator::{self, Generator, SIZES};
 use crate::library;
@@ -10,16 +13,9 @@ use crate::step::{driven, fresh, run, step};
 
 /// How many sessions take about twenty seconds.
 pub const USUAL_COUNT: u64 = 50_000;
-pub const USUAL_SEED: u64 = 1;
 
 /// The share of refused events, in a hundred.
 const REFUSED: usize = 3;
-
-/// What lent bytes hold before a call, so that a byte that was written or left shows.
-const FILLING: u8 = 0xA5;
-
-/// How many bytes behind a lent part are watched.
-const BEHIND: usize = 2;
 
 /// Places that are on no board.
 const FAR_PLACES: [usize; 6] = [PLACES, PLACES + 1, 255, 256, 1 << 16, usize::MAX];
@@ -49,15 +45,6 @@ impl Lent {
     fn bytes(&self) -> &[u8] {
         &self.bytes[..self.length]
     }
-
-    /// As in the cases: kind,place,value and the fourth byte where it is not 0.
-    fn text(&self) -> String {
-        match *self.bytes() {
-            [kind, place, value, 0] => format!("{kind},{place},{value}"),
-            [kind, place, value, fourth] => format!("{kind},{place},{value},{fourth}"),
-            _ => format!("{} bytes{:?}", self.length, self.bytes()).replace(' ', ""),
-        }
-    }
 }
 
 /// One board in both programs.
@@ -65,17 +52,6 @@ struct Pair {
     rival: Board,
     product: library::Board,
     steps: usize,
-}
-
-/// What the two say where they differ.
-type Agreement = Result<(), String>;
-
-fn same<T: PartialEq + std::fmt::Debug>(what: &str, rival: T, product: T) -> Agreement {
-    if rival == product {
-        Ok(())
-    } else {
-        Err(format!("{what}: rival {rival:?}, product {product:?}"))
-    }
 }
 
 impl Pair {
@@ -105,21 +81,7 @@ impl Pair {
     }
 
     fn same_board(&self, when: &str) -> Agreement {
-        let wanted = library::encode(&self.rival);
-        if wanted == self.product {
-            return Ok(());
-        }
-        let rival = library::fields(&wanted);
-        let product = library::fields(&self.product);
-        let different: Vec<String> = rival
-            .iter()
-            .zip(&product)
-            .filter(|(rival, product)| rival != product)
-            .map(|(rival, product)| {
-                format!("{}: rival {}, product {}", rival.0, rival.1, product.1)
-            })
-            .collect();
-        Err(format!("board {when}: {}", different.join("; ")))
+        same_board(when, &self.rival, &self.product)
     }
 
     fn same_lines(&mut self) -> Agreement {
@@ -391,12 +353,7 @@ fn same_fresh(size: usize, random: &mut Random) -> Agreement {
         code,
         given,
     )?;
-    Pair {
-        rival,
-        product,
-        steps: 0,
-    }
-    .same_board(&format!("made fresh with size {size}"))
+    same_board(&format!("made fresh with size {size}"), &rival, &product)
 }
 
 fn first_difference(start: &Board, events: &[Lent]) -> Option<(usize, String)> {
@@ -409,41 +366,15 @@ fn first_difference(start: &Board, events: &[Lent]) -> Option<(usize, String)> {
     None
 }
 
-/// Leaves out events, many at a time and then few, as long as some difference stays.
-fn fewer(start: &Board, events: &[Lent]) -> Vec<Lent> {
-    let mut kept = events.to_vec();
-    let mut piece = kept.len() / 2;
-    while piece > 0 {
-        let mut at = 0;
-        while at < kept.len() {
-            let mut tried = kept.clone();
-            tried.drain(at..(at + piece).min(kept.len()));
-            match first_difference(start, &tried) {
-                Some((last, _)) => {
-                    tried.truncate(last + 1);
-                    kept = tried;
-                }
-                None => at += piece,
-            }
-        }
-        piece /= 2;
-    }
-    kept
-}
-
 fn report(finding: &Finding) -> String {
-    let fresh_board = fresh(finding.start.size as usize).1;
-    let board = if finding.start == fresh_board {
-        format!("fresh board of size {}", finding.start.size)
-    } else {
-        let fields = library::fields(&library::encode(&finding.start));
-        let words: Vec<String> = fields
+    let board = board_text(&finding.start);
+    let text = |events: &[Lent]| {
+        let words: Vec<String> = events
             .iter()
-            .map(|(name, value)| format!("{name}={value}"))
+            .map(|event| event_text(event.bytes()))
             .collect();
-        format!("board {}", words.join(" "))
+        words.join(" ")
     };
-    let text = |events: &[Lent]| events.iter().map(Lent::text).collect::<Vec<_>>().join(" ");
     let mut report = format!(
         "{board}\n{} events: {}\n",
         finding.events.len(),
@@ -451,7 +382,9 @@ fn report(finding: &Finding) -> String {
     );
     report += &format!("{}\n", finding.what);
     if first_difference(&finding.start, &finding.events).is_some() {
-        let short = fewer(&finding.start, &finding.events);
+        let short = fewer(&finding.events, |events| {
+            first_difference(&finding.start, events).map(|(last, _)| last + 1)
+        });
         let (_, what) = first_difference(&finding.start, &short).expect("kept while leaving out");
         report += &format!("fewer events, {}: {}\n{what}\n", short.len(), text(&short));
     }
