@@ -14,7 +14,7 @@
  *     pio_board b = {0};), and so does every board that these functions leave. Nothing else is asked of it: what its
  *     other bytes hold is looked at here.
  *   - a pointer that comes with a length points to that many bytes, or to any byte if the length is 0; `records`
- *     points to a size_t;
+ *     and `written` point to a size_t;
  *   - the things given to one call do not overlap each other, and no other thread touches them meanwhile.
  */
 #ifndef PIO_H
@@ -83,10 +83,13 @@ enum {
     PIO_BAD_VALUE = 18,       /* a value that the kind does not allow, or a fourth byte that is not 0 */
     PIO_BAD_WORD = 19,        /* a control byte of no defined form */
     PIO_BAD_MODE = 20,        /* mode 2 for a port B */
-    PIO_BAD_LENGTH = 32,      /* a step with other than four event bytes, a run with other than whole records */
+    PIO_BAD_LENGTH = 32,      /* a step of other than four event bytes, a run or wave of other than whole records */
     PIO_BAD_SIZE = 33,        /* a board of no or of more than four chips */
     PIO_NO_ROOM = 34,         /* a buffer that is too short */
-    PIO_UNSOUND = 35          /* a board that is not sound; no events lead to one */
+    PIO_UNSOUND = 35,         /* a board that is not sound; no events lead to one */
+    PIO_TOO_MANY = 36,        /* a wave of more than 16,384 records */
+    PIO_NO_TEXT_ROOM = 40,    /* a text that is longer than its buffer */
+    PIO_BAD_STAMPS = 41       /* stamps that are not two bytes for each record */
 };
 
 #ifdef __cplusplus
@@ -133,6 +136,26 @@ uint8_t pio_run(struct pio_board *board, const uint8_t *events, size_t events_le
  * written. Then PIO_UNSOUND, then PIO_BAD_PLACE for a place that is not on the board: both write two zeros.
  */
 uint8_t pio_lines(const struct pio_board *board, size_t place, uint8_t *lines, size_t lines_length);
+
+/* So many bytes are room enough for the text of a recording of `records` records, whatever they hold. */
+#define PIO_WAVE_ROOM(records) (257 + 39 * (records))
+
+/*
+ * Does many events as pio_run does, and writes what a wave viewer shows of them as a Value Change Dump: after each
+ * moment the request (`int`) and the Ready of the eight places (`rdy0` to `rdy7`; 0 for a place that is not on the
+ * board). `stamps` holds two bytes for each record, low byte first: a counter of microseconds that goes from 65,535 to
+ * 0. Time is 0 at the first record and grows by the counter's difference, so neighbours are less than 65,536 apart.
+ * Records at one time are shown as one, by the values after the last of them, and a time without a change is not
+ * shown; no records at all give the header alone, 257 bytes. The text goes to the start of `text`, without a 0 byte at
+ * its end; bytes beyond it stay. Returns PIO_DONE, with the text's length in *written; PIO_WAVE_ROOM says how long it
+ * can get.
+ *
+ * Refused, with the board and the buffer as they were and 0 in *written, in this order: PIO_UNSOUND; PIO_BAD_LENGTH if
+ * the events are not whole records; PIO_TOO_MANY if there are more than 16,384; PIO_BAD_STAMPS if the stamps are not
+ * exactly two bytes for each record; PIO_NO_TEXT_ROOM if the text is longer than the buffer.
+ */
+uint8_t pio_wave(struct pio_board *board, const uint8_t *events, size_t events_length, const uint8_t *stamps,
+                 size_t stamps_length, uint8_t *text, size_t text_length, size_t *written);
 
 #ifdef __cplusplus
 }
