@@ -64,23 +64,21 @@ def answer(line, number):
 
 
 def panel(program, size, records):
-    """The last answer, and the last state of every place by column."""
+    """For each record the answer, and the state of every place by column."""
     lines = output([program, str(size)], records)
     if lines[:1] != ["columns " + " ".join(COLUMNS)]:
         raise Unreadable("the first line does not name the columns")
     places = 2 * size
     if len(lines) != 1 + len(records) * (1 + places):
         raise Unreadable(f"{len(lines)} lines for {len(records)} records")
-    last, states = None, {}
     for at in range(len(records)):
-        head = 1 + at * (1 + places)
-        last = answer(lines[head], at + 1)
+        head, states = 1 + at * (1 + places), {}
         for place in range(places):
             state = dict(zip(COLUMNS, numbers(lines[head + 1 + place], len(COLUMNS))))
             if state["place"] != place:
                 raise Unreadable(f"place {state['place']} stands where {place} should")
             states[place] = state
-    return last, states
+        yield answer(lines[head], at + 1), states
 
 
 def unsound(program, size, records):
@@ -112,7 +110,7 @@ def main():
             if size == 0:
                 last, states = unsound(rival_program, size, records), {}
             else:
-                last, states = panel(panel_program, size, records)
+                *_, (last, states) = panel(panel_program, size, records)
             outcome = [got(word, last, states) for word in wanted]
         except (Unreadable, OSError, ValueError, subprocess.TimeoutExpired) as trouble:
             outcome = [str(trouble)]
