@@ -160,7 +160,7 @@ def recordings():
         recording("ordinary", 4, station.events, station.stamps),
         restamped("wraps", 4, station.events, (40_000, 3, 65_535, 0, 32_768, 1, 65_000, 32_767), 65_535),
         restamped("equal-stamps", 4, station.events, (0, 0, 10, 0, 0, 0, 0, 90, 0, 0, 0, 0, 0, 0, 900), 9),
-        restamped("one-moment", 2, station.events, (0,), 300),
+        restamped("one-moment", 2, station.events[:-1], (0,), 300),
         restamped("one-record", 2, [(READ, 3, 0)], (0,), 77),
         recording("none", 4, [], []),
         restamped("one-chip", 1, random_events(1, 500, 1), random_steps(500, 2), 12_345),
@@ -174,13 +174,19 @@ def one_too_many():
     return restamped("one-too-many", 4, random_events(4, MOST_RECORDS + 1, 7), (1,))
 
 
+def write(each, directory):
+    """The names of its two files."""
+    events, stamps = (pathlib.Path(directory) / f"{each.name}.{suffix}" for suffix in ("events", "stamps"))
+    events.write_bytes(each.events)
+    stamps.write_bytes(each.stamps)
+    return events, stamps
+
+
 def main():
     if len(sys.argv) != 2:
         sys.exit("usage: recordings.py DIRECTORY")
     for each in recordings():
-        path = pathlib.Path(sys.argv[1]) / each.name
-        path.with_suffix(".events").write_bytes(each.events)
-        path.with_suffix(".stamps").write_bytes(each.stamps)
+        write(each, sys.argv[1])
 
 
 if __name__ == "__main__":
