@@ -15,6 +15,7 @@ ghost use Rattle.board.specs.Step.{stepOf};
 ghost use Rattle.board.specs.Halves.{idle};
 ghost use Rattle.records.specs.Records.{bytesOf};
 ghost use Rattle.run.specs.Run.{ranOf, bufferOf};
+ghost use Rattle.recording.specs.Wave.{exportedOf, pageOf};
 ghost use Rattle.pio.specs.Seen.{seenPlan};
 ghost use Rattle.pio.specs.Lent.{lentOf, lentLines, linesBytes, written};
 
@@ -133,6 +134,26 @@ pub extern "C" fn pio_run(
     let r = run::run(*board, events, answers, start);
     *board = r.board;
     *records = r.records;
+    r.code
+}
+
+// The text of a recording at the start of `text`, and its length in `written`.
+#[no_mangle]
+pub extern "C" fn pio_wave(
+    board: &mut Board,
+    events: &[u8],
+    stamps: &[u8],
+    text: &mut [u8],
+    written: &mut usize,
+) -> u8
+    ensures { λ r. ⌜ r ≡ exportedOf (now (board .entry)) (now (events .entry)) (now (stamps .entry)) (length (now (text .entry))) .code ⌝ }
+    ensures { λ _. ⌜ now (board .exit) ≡ exportedOf (now (board .entry)) (now (events .entry)) (now (stamps .entry)) (length (now (text .entry))) .board ⌝ }
+    ensures { λ _. ⌜ now (written .exit) ≡ exportedOf (now (board .entry)) (now (events .entry)) (now (stamps .entry)) (length (now (text .entry))) .length ⌝ }
+    ensures { λ _. ⌜ now (text .exit) ≡ pageOf (now (board .entry)) (now (events .entry)) (now (stamps .entry)) (now (text .entry)) ⌝ }
+{
+    let r = recording::export(*board, events, stamps, text);
+    *board = r.board;
+    *written = r.length;
     r.code
 }
 
