@@ -39,8 +39,9 @@ pub fn gap_after(stamps: &[u8], i: usize) -> u64
     if n - i < 2 {
         return 65536;
     }
-    let gap = std::num::wrapping_sub_u16(stamp(stamps, i + 1), stamp(stamps, i));
-    gap as u64
+    let here = stamp(stamps, i);
+    let next = stamp(stamps, i + 1);
+    std::num::wrapping_sub_u16(next, here) as u64
 }
 
 // The value of a Ready line of chip k, which may be beyond the board's size.

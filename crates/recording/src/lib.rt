@@ -147,14 +147,14 @@ fn scan(board: Board, seen: Look, events: &[u8], stamps: &[u8], out: &mut [u8]) 
     while i < n {
         let at = 4 * i;
         let after = advance(size, stand, &events[at..at + 4]);
-        stand = after;
         let gap = frames::gap_after(stamps, i);
         if gap != 0 {
-            let here = stand.chips;
-            let values = frames::values(size, here, stand.request);
+            let here = after.chips;
+            let values = frames::values(size, here, after.request);
             next = show(out, next, time, shown, values);
             shown = values;
         }
+        stand = after;
         time += gap;
         i += 1;
     }

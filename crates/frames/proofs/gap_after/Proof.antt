@@ -24,8 +24,8 @@ gap-after-spec =
     returns
     (λ c. search needs)
     returns-2
-    (λ c. search needs)
     (λ c κs. omega arith)
+    (λ c. search needs)
     (λ c κs. omega arith)
     (λ c κs. search needs)
     (λ c. search needs)
