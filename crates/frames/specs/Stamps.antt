@@ -11,10 +11,6 @@ stampsOf [] = []
 stampsOf (low ∷ []) = []
 stampsOf (low ∷ high ∷ rest) = (low + 256 * high) ∷ stampsOf rest
 
--- stamp i
-abbrev pub stampAt : List ℕ → ℕ → ℕ
-stampAt bytes i = getD bytes (2 * i) 0 + 256 * getD bytes (2 * i + 1) 0
-
 -- the wrapping difference of a stamp and the next
 abbrev pub gapOf : ℕ → ℕ → ℕ
 gapOf stamp next = (next + 65536 - stamp) % 65536
@@ -24,6 +20,11 @@ unfoldable pub timesOf : ℕ → List ℕ → List ℕ
 timesOf time [] = []
 timesOf time (s ∷ []) = time ∷ []
 timesOf time (s ∷ t ∷ ss) = time ∷ timesOf (time + gapOf s t) (t ∷ ss)
+
+-- ---- how the code asks for a stamp and for the time to the next; nothing here need be believed
+-- stamp i
+abbrev pub stampAt : List ℕ → ℕ → ℕ
+stampAt bytes i = getD bytes (2 * i) 0 + 256 * getD bytes (2 * i + 1) 0
 
 -- from the first of these stamps to the next; where there is no next, 65,536, which no difference is
 unfoldable pub gapIn : List ℕ → ℕ

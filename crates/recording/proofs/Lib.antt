@@ -4,3 +4,4 @@ pub mod Advances
 pub mod Fronts
 pub mod Scans
 pub mod Ways
+pub mod Examples
