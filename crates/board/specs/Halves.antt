@@ -103,7 +103,14 @@ planOf size d marks due request e =
     if not (earlyAt size e is 0) then idle d marks (earlyAt size e) (placeOf e) (valueOf e) request else
     acceptedPlan d marks due request (kindOf e) (placeOf e) (valueOf e)
 
--- the first half for any board: 32 and 35 come before all else
+-- the first half after a look at any board: 32 and 35 come before all else
+unfoldable pub seenPlan : ℕ → Decoder → Look → List ℕ → Plan
+seenPlan size d l e =
+    if l .sound then planOf size d (l .marks) (l .due) (signalOf (l .marks)) e else
+    if not (length e is 4) then idle d (l .marks) 32 0 0 0 else
+    idle d (l .marks) 35 (placeOf e) (valueOf e) 0
+
+-- the first half for any board
 unfoldable pub firstOf : Board → List ℕ → Plan
 firstOf b e =
     if lookOf (b .size) (b .chips) .sound

@@ -1,5 +1,1 @@
-pub mod Item
-pub mod Rows
-pub mod Claims
-pub mod Seen
 pub mod Rooms

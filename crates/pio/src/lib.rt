@@ -3,20 +3,13 @@
 // Rust to link; include/pio.h says in words what each answers and refuses.
 use board::Answer;
 use board::Board;
-use board::Look;
-use board::Plan;
-use chain::Decoder;
 ghost use mathlib.Core.Path.{_≡_};
-ghost use Prim.Native.Nat.{_<_};
 ghost use lib.Dec.{leb};
 ghost use lib.ListN.{length};
 ghost use Rattle.board.specs.Board.{freshOf};
-ghost use Rattle.board.specs.Step.{stepOf};
-ghost use Rattle.board.specs.Halves.{idle};
 ghost use Rattle.records.specs.Records.{bytesOf};
 ghost use Rattle.run.specs.Run.{ranOf, bufferOf};
 ghost use Rattle.recording.specs.Wave.{exportedOf, pageOf};
-ghost use Rattle.pio.specs.Seen.{seenPlan};
 ghost use Rattle.pio.specs.Lent.{lentOf, lentLines, linesBytes, written};
 
 // A fresh board of `size` chips; 33 and a board of size 0 for a size that no board has.
@@ -28,62 +21,6 @@ pub extern "C" fn pio_fresh(board: &mut Board, size: usize) -> u8
     let m = board::fresh(size);
     *board = m.board;
     m.code
-}
-
-// Nothing changes, and the answer is a refusal with request 0.
-fn plan_refusal(decoder: Decoder, marks: [u8; 4], code: u8, place: u8, value: u8) -> Plan
-    ensures { λ r. ⌜ (r ≡ idle decoder marks code place value 0) × (r .chip < 4) ⌝ }
-{
-    Plan {
-        whole: false,
-        one: false,
-        chip: 0,
-        second: false,
-        kind: 0,
-        code: code,
-        place: place,
-        value: value,
-        request: 0,
-        marks: marks,
-        decoder: decoder,
-    }
-}
-
-// The first half of a step on a board that was looked over: what the event's bytes ask. 32 and 35 come before all else.
-fn plan_seen(size: u8, decoder: Decoder, seen: Look, event: &[u8]) -> Plan
-    ensures { λ r. ⌜ (r ≡ seenPlan size decoder seen (now (event .entry))) × (r .chip < 4) ⌝ }
-{
-    let marks = seen.marks;
-    if seen.sound {
-        let request = board::signal(marks);
-        return plans::step_reads(size, decoder, marks, seen.due, request, event);
-    }
-    if event.len() != 4 {
-        return plan_refusal(decoder, marks, 32, 0, 0);
-    }
-    plan_refusal(decoder, marks, 35, event[1], event[2])
-}
-
-// One step. The chips are looked over where they lie. An event that concerns one chip takes that chip out of the board and puts it
-// back; a reset, and a fetch that makes a port live, change them all.
-pub fn step(board: &mut Board, event: &[u8]) -> Answer
-    ensures { λ r. ⌜ r ≡ stepOf (now (board .entry)) (now (event .entry)) .answer ⌝ }
-    ensures { λ _. ⌜ now (board .exit) ≡ stepOf (now (board .entry)) (now (event .entry)) .board ⌝ }
-{
-    let seen = board::look_over(board.size, board.chips);
-    let w = plan_seen(board.size, board.decoder, seen, event);
-    if w.whole {
-        let s = steps::step_chips(board.size, board.chips, w);
-        board.chips = s.chips;
-        board.decoder = w.decoder;
-        return s.answer;
-    } else {
-        let k = w.chip;
-        let r = steps::step_chip(board.chips[k], w);
-        board.chips[k] = r.chip;
-        board.decoder = w.decoder;
-        return r.answer;
-    }
 }
 
 // Whether a buffer of `length` bytes has room for `need`.
@@ -110,7 +47,7 @@ pub extern "C" fn pio_step(board: &mut Board, event: &[u8], answer: &mut [u8]) -
     ensures { λ _. ⌜ now (answer .exit) ≡ written (now (answer .entry)) (bytesOf (lentOf (now (board .entry)) (now (event .entry)) (length (now (answer .entry))) .answer)) ⌝ }
 {
     if has_room(answer.len(), 4) {
-        let a = step(board, event);
+        let a = lent::step(board, event);
         return put_answer(answer, a);
     } else {
         return 34;

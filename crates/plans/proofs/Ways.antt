@@ -1,7 +1,7 @@
 -- What each way out of the first half gives, of any values: `search` finds the premises among what the calls ensure and what the
 -- branches tell.
 -- Assumes nothing.
-use mathlib.Core.Path.{_≡_, sym, ap, _∙_}
+use mathlib.Core.Path.{_≡_, refl, sym, ap, _∙_}
 use mathlib.Core.Bool.{Bool, true, false, _&&_, _||_, not}
 use mathlib.Core.List.{List}
 use Prim.Native.Nat.{ℕ, _*_, _/_, _-_, _≤_, _<_}
@@ -18,7 +18,7 @@ use Rattle.board.specs.declared.Board.{Board}
 use Rattle.board.specs.declared.Look.{Look}
 use Rattle.board.specs.declared.Plan.{Plan}
 use Rattle.board.specs.Step.{kindOf, placeOf, valueOf, placeBad, valueBad}
-use Rattle.board.specs.Halves.{lookOf, signalOf, earlyOf, earlyAt, idle, single, fetchAt, fetchPlan, acknowledgePlan, resetPlan, acceptedPlan, planOf, firstOf}
+use Rattle.board.specs.Halves.{lookOf, signalOf, earlyOf, earlyAt, idle, single, fetchAt, fetchPlan, acknowledgePlan, resetPlan, acceptedPlan, planOf, seenPlan, firstOf}
 
 -- ---- the early refusals
 -- `place / 2 < size` never forms the number of places
@@ -107,16 +107,24 @@ module _ (size : ℕ) (d : Decoder) (marks : List ℕ) (due : Bool) (request : �
   unfolding planOf if_then_else_
   goes-on code n i z h = rw (eq-eqb (length e) 4 n, ← i, z) h
 
--- ---- the first half, of a sound board and of one that is not
-module _ (b : Board) (e : List ℕ) (l : Look) (p : Plan) (i : l ≡ lookOf (b .size) (b .chips)) where
-  pub looked-sound : (r : ℕ) → l .sound ≡ true → r ≡ signalOf (l .marks) → p ≡ planOf (b .size) (b .decoder) (l .marks) (l .due) r e → p ≡ firstOf b e
-  unfolding firstOf lookOf if_then_else_
-  looked-sound r s q h = rw (ap (λ (x : Look). x .sound) (sym i) ∙ s) (rw (q, i) at h)
+-- ---- the first half after a look at the board, sound or not
+module _ (size : ℕ) (d : Decoder) (l : Look) (e : List ℕ) (p : Plan) where
+  pub seen-sound : (r : ℕ) → l .sound ≡ true → r ≡ signalOf (l .marks) → p ≡ planOf size d (l .marks) (l .due) r e → p ≡ seenPlan size d l e
+  unfolding seenPlan if_then_else_
+  seen-sound r s q h = rw s (rw q at h)
 
-  pub looked-short : l .sound ≡ false → (length e ≡ 4 → ⊥) → p ≡ idle (b .decoder) (l .marks) 32 0 0 0 → p ≡ firstOf b e
-  unfolding firstOf lookOf if_then_else_
-  looked-short s n h = rw (ap (λ (x : Look). x .sound) (sym i) ∙ s, ne-eqb (length e) 4 n) (rw i at h)
+  pub seen-short : l .sound ≡ false → (length e ≡ 4 → ⊥) → p ≡ idle d (l .marks) 32 0 0 0 → p ≡ seenPlan size d l e
+  unfolding seenPlan if_then_else_
+  seen-short s n h = rw (s, ne-eqb (length e) 4 n) h
 
-  pub looked-bad : l .sound ≡ false → length e ≡ 4 → p ≡ idle (b .decoder) (l .marks) 35 (placeOf e) (valueOf e) 0 → p ≡ firstOf b e
-  unfolding firstOf lookOf if_then_else_
-  looked-bad s n h = rw (ap (λ (x : Look). x .sound) (sym i) ∙ s, eq-eqb (length e) 4 n) (rw i at h)
+  pub seen-bad : l .sound ≡ false → length e ≡ 4 → p ≡ idle d (l .marks) 35 (placeOf e) (valueOf e) 0 → p ≡ seenPlan size d l e
+  unfolding seenPlan if_then_else_
+  seen-bad s n h = rw (s, eq-eqb (length e) 4 n) h
+
+module _ (b : Board) (e : List ℕ) where
+  looked : seenPlan (b .size) (b .decoder) (lookOf (b .size) (b .chips)) e ≡ firstOf b e
+  unfolding seenPlan firstOf lookOf
+  looked = refl
+
+  pub seen-first : (l : Look) (p : Plan) → l ≡ lookOf (b .size) (b .chips) → p ≡ seenPlan (b .size) (b .decoder) l e → p ≡ firstOf b e
+  seen-first l p i h = h ∙ ap (λ (x : Look). seenPlan (b .size) (b .decoder) x e) i ∙ looked

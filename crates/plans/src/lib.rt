@@ -1,13 +1,14 @@
 // What an event asks of the board: document 01, "Records", the refusals that need no look at a port, and the first half of a step.
-// `step_reads` reads the event's four bytes on a board that is known to be sound; `step_looks` looks the board over first. The
-// definitions are the board's.
+// `step_reads` reads the event's four bytes on a board that is known to be sound; `step_seen` goes by a look at the board, and
+// `step_looks` looks it over itself. The definitions are the board's.
 use board::Board;
+use board::Look;
 use board::Plan;
 use chain::Decoder;
 ghost use mathlib.Core.Path.{_≡_};
 ghost use Prim.Native.Nat.{_<_};
 ghost use lib.ListN.{length};
-ghost use Rattle.board.specs.Halves.{earlyOf, idle, single, fetchAt, fetchPlan, acknowledgePlan, acceptedPlan, planOf, firstOf};
+ghost use Rattle.board.specs.Halves.{earlyOf, idle, single, fetchAt, fetchPlan, acknowledgePlan, acceptedPlan, planOf, seenPlan, firstOf};
 
 // The refusals that need no look at a port, or 0.
 pub fn early_refusal(size: u8, kind: u8, place: u8, value: u8, last: u8) -> u8
@@ -197,20 +198,27 @@ pub fn step_reads(
     plan_accepted(decoder, marks, due, request, kind, place, value)
 }
 
-// The first half of a step on any board: it looks the board over, and 32 and 35 come before all else.
+// The first half of a step on any board that was looked over: 32 and 35 come before all else.
+pub fn step_seen(size: u8, decoder: Decoder, seen: Look, event: &[u8]) -> Plan
+    ensures { λ r. ⌜ (r ≡ seenPlan size decoder seen (now (event .entry))) × (r .chip < 4) ⌝ }
+{
+    let marks = seen.marks;
+    if seen.sound {
+        let request = board::signal(marks);
+        return step_reads(size, decoder, marks, seen.due, request, event);
+    }
+    if event.len() != 4 {
+        return plan_nothing(decoder, marks, 32, 0, 0, 0);
+    }
+    plan_nothing(decoder, marks, 35, event[1], event[2], 0)
+}
+
+// The first half of a step on any board: it looks the board over.
 pub fn step_looks(board: Board, event: &[u8]) -> Plan
     ensures { λ r. ⌜ (r ≡ firstOf board (now (event .entry))) × ((r .chip < 4) × (length (board .chips) ≡ 4)) ⌝ }
 {
     let chips = board.chips;
     let decoder = board.decoder;
     let seen = board::look_over(board.size, chips);
-    let marks = seen.marks;
-    if seen.sound {
-        let request = board::signal(marks);
-        return step_reads(board.size, decoder, marks, seen.due, request, event);
-    }
-    if event.len() != 4 {
-        return plan_nothing(decoder, marks, 32, 0, 0, 0);
-    }
-    plan_nothing(decoder, marks, 35, event[1], event[2], 0)
+    step_seen(board.size, decoder, seen, event)
 }

@@ -47,7 +47,7 @@ use Rattle.board.proofs.fresh as fresh
 use Rattle.board.proofs.fresh.Symbol as fresh-def
 use Rattle.board.proofs.fresh.Symbol.{name as #fresh}
 use Rattle.board.proofs.fresh.Met as fresh-thm
-use Rattle.pio.proofs.Claims.{says-two}
+use Rattle.lent.proofs.Claims.{says-two}
 use Rattle.pio.proofs.pio_fresh.Key.{name as #lent}
 use Rattle.pio.proofs.pio_fresh as lent
 use Rattle.pio.proofs.pio_fresh.Statement as stated

@@ -47,7 +47,7 @@ use Rattle.pio.proofs.put_lines as put
 use Rattle.pio.proofs.put_lines.Symbol as put-def
 use Rattle.pio.proofs.put_lines.Symbol.{name as #put}
 use Rattle.pio.proofs.put_lines.Met as put-thm
-use Rattle.pio.proofs.Claims.{says-two}
+use Rattle.lent.proofs.Claims.{says-two}
 use Rattle.pio.proofs.pio_lines.Key.{name as #lent}
 use Rattle.pio.proofs.pio_lines as lent
 use Rattle.pio.proofs.pio_lines.Statement as stated

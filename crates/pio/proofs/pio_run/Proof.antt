@@ -49,7 +49,7 @@ use Rattle.run.proofs.run as value
 use Rattle.run.proofs.run.Symbol as value-def
 use Rattle.run.proofs.run.Symbol.{name as #value}
 use Rattle.run.proofs.run.Met as value-thm
-use Rattle.pio.proofs.Claims.{says-four}
+use Rattle.lent.proofs.Claims.{says-four}
 use Rattle.pio.proofs.pio_run.Key.{name as #lent}
 use Rattle.pio.proofs.pio_run as lent
 use Rattle.pio.proofs.pio_run.Statement as stated

@@ -53,15 +53,15 @@ use Rattle.pio.proofs.has_room as room
 use Rattle.pio.proofs.has_room.Symbol as room-def
 use Rattle.pio.proofs.has_room.Symbol.{name as #room}
 use Rattle.pio.proofs.has_room.Met as room-thm
-use Rattle.pio.proofs.step as step
-use Rattle.pio.proofs.step.Symbol as step-def
-use Rattle.pio.proofs.step.Symbol.{name as #step}
-use Rattle.pio.proofs.step.Met as step-thm
+use Rattle.lent.proofs.step as step
+use Rattle.lent.proofs.step.Symbol as step-def
+use Rattle.lent.proofs.step.Symbol.{name as #step}
+use Rattle.lent.proofs.step.Met as step-thm
 use Rattle.pio.proofs.put_answer as put
 use Rattle.pio.proofs.put_answer.Symbol as put-def
 use Rattle.pio.proofs.put_answer.Symbol.{name as #put}
 use Rattle.pio.proofs.put_answer.Met as put-thm
-use Rattle.pio.proofs.Claims.{holds, fails, says-three}
+use Rattle.lent.proofs.Claims.{holds, fails, says-three}
 use Rattle.pio.proofs.Rooms.{with-room, without-room, nothing-written}
 use Rattle.pio.proofs.pio_step.Key.{name as #lent}
 use Rattle.pio.proofs.pio_step as lent
@@ -222,5 +222,5 @@ pio-step-spec 𝓤 H 𝓜 𝓖 𝓡 =
     (tables 𝓤 H 𝓜 𝓡 code.env .C) (tables 𝓤 H 𝓜 𝓡 code.env .Λ) #lent code.function (code.unfolded 𝓤 H 𝓜 𝓡)
     (lent-meets 𝓤 H (𝓖 .A) (givenOf 𝓤 H 𝓜 𝓖) (𝓜 .mem) (𝓡 .run) (tablesOf 𝓤 H 𝓜 (tables 𝓤 H 𝓜 𝓡 code.env))
     (cited 𝓤 H (HasRoom 𝓤 H (𝓖 .A) (𝓜 .mem) (𝓡 .run)) 𝓜 𝓡 code.env #room room-def.routine code.calls-pio·has-room (room-thm.met 𝓤 H 𝓜 𝓖 𝓡))
-    (cited 𝓤 H (Steps 𝓤 H (𝓖 .A) (𝓜 .mem) (𝓡 .run)) 𝓜 𝓡 code.env #step step-def.routine code.calls-pio·step (step-thm.met 𝓤 H 𝓜 𝓖 𝓡))
+    (cited 𝓤 H (Steps 𝓤 H (𝓖 .A) (𝓜 .mem) (𝓡 .run)) 𝓜 𝓡 code.env #step step-def.routine code.calls-lent·step (step-thm.met 𝓤 H 𝓜 𝓖 𝓡))
     (cited 𝓤 H (Put 𝓤 H (𝓖 .A) (𝓜 .mem) (𝓡 .run)) 𝓜 𝓡 code.env #put put-def.routine code.calls-pio·put-answer (put-thm.met 𝓤 H 𝓜 𝓖 𝓡)))

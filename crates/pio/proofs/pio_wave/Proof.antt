@@ -49,7 +49,7 @@ use Rattle.recording.proofs.export as value
 use Rattle.recording.proofs.export.Symbol as value-def
 use Rattle.recording.proofs.export.Symbol.{name as #value}
 use Rattle.recording.proofs.export.Met as value-thm
-use Rattle.pio.proofs.Claims.{says-four}
+use Rattle.lent.proofs.Claims.{says-four}
 use Rattle.pio.proofs.pio_wave.Key.{name as #lent}
 use Rattle.pio.proofs.pio_wave as lent
 use Rattle.pio.proofs.pio_wave.Statement as stated

@@ -1,4 +1,4 @@
--- `pio::step` meets its contract: a walk of its MIR, by hand, with a branch. `look_over` looks at the chips and `plan_seen` reads the event; one arm goes by `step_chips`, on every chip, the other by `step_chip`, on the one chip that the event concerns, taken out of the board and put back. Each arm returns, so that nothing follows the branch.
+-- `lent::step` meets its contract: a walk of its MIR, by hand, with a branch. `look_over` looks at the chips and `step_seen` reads the event; one arm goes by `step_chips`, on every chip, the other by `step_chip`, on the one chip that the event concerns, taken out of the board and put back. Each arm returns, so that nothing follows the branch.
 -- All that the proof knows of the four is that each meets its contract. Assumes nothing.
 use mathlib.Core.Path.{_≡_, refl, sym, ap, subst}
 use Prim.Native.Nat.{ℕ, _<_, _*_, _+_, _^_}
@@ -51,8 +51,7 @@ use Rattle.board.specs.declared.Plan.{Plan}
 use Rattle.board.specs.declared.Changed.{Changed}
 use Rattle.board.specs.declared.Swept.{Swept}
 use Rattle.board.specs.Step.{stepOf}
-use Rattle.board.specs.Halves.{lookOf, firstOf, changedOf, sweptOf, blank, wholly, singly}
-use Rattle.pio.specs.Seen.{seenPlan}
+use Rattle.board.specs.Halves.{lookOf, seenPlan, firstOf, changedOf, sweptOf, blank, wholly, singly}
 use Rattle.board.proofs.Steps.{step-whole, step-single}
 use Rattle.chip.proofs.Chip as P
 use Rattle.chip.proofs.Chip.Laws as P′
@@ -74,10 +73,10 @@ use Rattle.board.proofs.look_over as looks
 use Rattle.board.proofs.look_over.Symbol as looks-def
 use Rattle.board.proofs.look_over.Symbol.{name as #looks}
 use Rattle.board.proofs.look_over.Met as looks-thm
-use Rattle.pio.proofs.plan_seen as plans
-use Rattle.pio.proofs.plan_seen.Symbol as plans-def
-use Rattle.pio.proofs.plan_seen.Symbol.{name as #plans}
-use Rattle.pio.proofs.plan_seen.Met as plans-thm
+use Rattle.plans.proofs.step_seen as plans
+use Rattle.plans.proofs.step_seen.Symbol as plans-def
+use Rattle.plans.proofs.step_seen.Symbol.{name as #plans}
+use Rattle.plans.proofs.step_seen.Met as plans-thm
 use Rattle.steps.proofs.step_chip as single
 use Rattle.steps.proofs.step_chip.Symbol as single-def
 use Rattle.steps.proofs.step_chip.Symbol.{name as #single}
@@ -86,14 +85,14 @@ use Rattle.steps.proofs.step_chips as every
 use Rattle.steps.proofs.step_chips.Symbol as every-def
 use Rattle.steps.proofs.step_chips.Symbol.{name as #every}
 use Rattle.steps.proofs.step_chips.Met as every-thm
-use Rattle.pio.proofs.Claims.{holds, fails, says-two}
-use Rattle.pio.proofs.Seen.{seen-first}
-use Rattle.pio.proofs.Rows.{as-records}
-use Rattle.pio.proofs.Item.{item, items, items-count, get-val, get-known, set-val, set-known}
-use Rattle.pio.proofs.step.Key.{name as #step}
-use Rattle.pio.proofs.step as step
-use Rattle.pio.proofs.step.Statement as stated
-use Rattle.pio.proofs.step.Code as code
+use Rattle.lent.proofs.Claims.{holds, fails, says-two}
+use Rattle.plans.proofs.Ways.{seen-first}
+use Rattle.lent.proofs.Rows.{as-records}
+use Rattle.lent.proofs.Item.{item, items, items-count, get-val, get-known, set-val, set-known}
+use Rattle.lent.proofs.step.Key.{name as #step}
+use Rattle.lent.proofs.step as step
+use Rattle.lent.proofs.step.Statement as stated
+use Rattle.lent.proofs.step.Code as code
 
 -- at exit of board only what says its last value is had, and of event nothing
 abbrev stayed : Stays (step.ended .signature .params) (step.ended .kept)
@@ -136,7 +135,7 @@ module _ {M : Type 1} (𝓤 : URA M) (H : Heap 𝓤) (A : Atoms 𝓤) (W : Given
   abbrev Post : Val → SProp 𝓤
   Post = walkOf 𝓤 H A step.ended stayed (step.clauses 𝓤 H A mem run) .post (((κ, (κ′, tt)), (q, (q′, tt)), tt, x, at), tt)
 
-  -- what `look_over` and `plan_seen` ensure, and the chip that a plan names
+  -- what `look_over` and `step_seen` ensure, and the chip that a plan names
   abbrev Seen : Look → Type 0
   Seen v = (v ≡ lookOf (h .size) (h .chips)) × (length (h .chips) ≡ 4)
 
@@ -248,7 +247,7 @@ module _ {M : Type 1} (𝓤 : URA M) (H : Heap 𝓤) (A : Atoms 𝓤) (W : Given
         land ! (from ! (stop !)) (init ! 38 refl (LL.lawful L.the-type L′.the-laws 𝓤 H A W .typed v _ iv .0)) $ rewrite ! 38 (λ (x : Val). ‵ (fat fullShare L′.mir l₃ 0 x)) (ap only (LL.tells L.the-type L′.the-laws v _ iv)) refl $
         assigns ! (of-opd ! (load ! (from ! (hop ! (look ! 42 refl) (fld ! refl (stop !)))) (look-in ! 0 (sub ! 0 refl (whole !))))) (from ! (stop !)) (store ! 28 refl (T′.the-laws .0 .lawful 𝓤 H A W .typed _ _ (fields .0) .0)) $
         assigns ! (of-opd ! (load ! (from ! (hop ! (look ! 42 refl) (fld ! refl (stop !)))) (look-in ! 0 (sub ! 2 refl (whole !))))) (from ! (stop !)) (init ! 24 refl (T′.the-laws .1 .1 .0 .lawful 𝓤 H A W .typed _ _ (fields .1 .1 .0) .0)) $
-        -- `plan_seen`
+        -- `step_seen`
         move ! (4 ∷ 5 ∷ []) $ use2 W (raw (Plans 𝓤 H A mem run .pre (to₁ v))) (goes₁ v was (subst (Is L.the-row v) (LL.tells L.the-type L′.the-laws v _ iv) iv)) $
         calls-at ! fm (Plans 𝓤 H A mem run) known₁ (to₁ v) (and-then ! (load ! (from ! (stop !)) (look ! 27 refl)) (and-then ! (load ! (from ! (stop !)) (look ! 23 refl)) (and-then ! (load ! (from ! (stop !)) (look ! 37 refl)) (and-then ! (load ! (from ! (stop !)) (look ! 39 refl)) (no-more !))))) (λ u.
         use1 W (later (some (λ (w : Plan). ((‵ (flft κ′ q′) ⊛ ‵ ftrue) ⊛ ‵ (Q.the-row .own w (u ∷ []))) ⊛ raw (ensured 𝓤 H A plans.ended (plans.clauses 𝓤 H A mem run) (κ′, tt) (args₁ v) tt w)))) (id⊢ 𝓤 _) $ await ! tt $ picks ! (λ w.
@@ -335,6 +334,6 @@ step-spec 𝓤 H 𝓜 𝓖 𝓡 =
     (tables 𝓤 H 𝓜 𝓡 code.env .C) (tables 𝓤 H 𝓜 𝓡 code.env .Λ) #step code.function (code.unfolded 𝓤 H 𝓜 𝓡)
     (step-meets 𝓤 H (𝓖 .A) (givenOf 𝓤 H 𝓜 𝓖) (𝓜 .mem) (𝓡 .run) (tablesOf 𝓤 H 𝓜 (tables 𝓤 H 𝓜 𝓡 code.env))
     (cited 𝓤 H (Looks 𝓤 H (𝓖 .A) (𝓜 .mem) (𝓡 .run)) 𝓜 𝓡 code.env #looks looks-def.routine code.calls-board·look-over (looks-thm.met 𝓤 H 𝓜 𝓖 𝓡))
-    (cited 𝓤 H (Plans 𝓤 H (𝓖 .A) (𝓜 .mem) (𝓡 .run)) 𝓜 𝓡 code.env #plans plans-def.routine code.calls-pio·plan-seen (plans-thm.met 𝓤 H 𝓜 𝓖 𝓡))
+    (cited 𝓤 H (Plans 𝓤 H (𝓖 .A) (𝓜 .mem) (𝓡 .run)) 𝓜 𝓡 code.env #plans plans-def.routine code.calls-plans·step-seen (plans-thm.met 𝓤 H 𝓜 𝓖 𝓡))
     (cited 𝓤 H (Single 𝓤 H (𝓖 .A) (𝓜 .mem) (𝓡 .run)) 𝓜 𝓡 code.env #single single-def.routine code.calls-steps·step-chip (single-thm.met 𝓤 H 𝓜 𝓖 𝓡))
     (cited 𝓤 H (Every 𝓤 H (𝓖 .A) (𝓜 .mem) (𝓡 .run)) 𝓜 𝓡 code.env #every every-def.routine code.calls-steps·step-chips (every-thm.met 𝓤 H 𝓜 𝓖 𝓡)))

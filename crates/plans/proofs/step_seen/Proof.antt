@@ -1,12 +1,12 @@
--- `pio::plan_seen` meets its contract.
+-- `plans::step_seen` meets its contract.
 -- Assumes nothing.
 use borrow.Author.Needs.{needs}
-use Rattle.pio.proofs.Seen.{seen-sound, seen-short, seen-bad}
-use Rattle.pio.proofs.plan_seen.Statement.{statement}
-use Rattle.pio.proofs.plan_seen.Tie as tie
+use Rattle.plans.proofs.Ways.{seen-sound, seen-short, seen-bad}
+use Rattle.plans.proofs.step_seen.Statement.{statement}
+use Rattle.plans.proofs.step_seen.Tie as tie
 
-pub plan-seen-spec : {M : Type 1} → statement M
-plan-seen-spec =
+pub step-seen-spec : {M : Type 1} → statement M
+step-seen-spec =
     tie.close
     (tie.spec
     (λ c κs. search needs)
