@@ -10,7 +10,7 @@ use lib.ListN.{length, getD}
 use borrow.Author.Tests.{lt-ltb}
 use Rattle.bits.specs.Bits.{if_then_else_, _is_}
 use Rattle.chip.specs.declared.Chip.{Chip}
-use Rattle.frames.specs.Values.{flag, readies, valuesOf}
+use Rattle.frames.specs.Values.{flag, valuesOf}
 
 four : (size : ℕ) (request : ℕ) (c d e f : Chip) → valuesOf size (c ∷ d ∷ e ∷ f ∷ []) request
     ≡ (flag (not (request is 0)) ∷ flag (ltb 0 size && c .a .ready) ∷ flag (ltb 0 size && c .b .ready) ∷ flag (ltb 1 size && d .a .ready) ∷ flag (ltb 1 size && d .b .ready) ∷ flag (ltb 2 size && e .a .ready) ∷ flag (ltb 2 size && e .b .ready) ∷ flag (ltb 3 size && f .a .ready) ∷ flag (ltb 3 size && f .b .ready) ∷ [])

@@ -16,11 +16,11 @@ use Rattle.chain.specs.declared.Decoder.{Decoder}
 use Rattle.board.specs.declared.Board.{Board}
 use Rattle.board.specs.declared.Stepped.{Stepped}
 use Rattle.board.specs.declared.Plan.{Plan}
-use Rattle.board.specs.Step.{kindOf, placeOf, valueOf, stepOf}
+use Rattle.board.specs.Step.{kindOf, valueOf, stepOf}
 use Rattle.board.specs.Halves.{earlyAt, fetchPlan, acknowledgePlan, acceptedPlan, planOf, changedOf, sweptOf, blank}
 use Rattle.records.proofs.Kept.{Kept, whole-steps, whole-keeps, idle-steps, idle-keeps, single-steps, single-keeps}
 use Rattle.recording.specs.declared.Stand.{Stand}
-use Rattle.recording.specs.Fast.{swept, touched, kept, carry, advancedOf}
+use Rattle.recording.specs.Fast.{swept, touched, kept, advancedOf}
 
 -- the board of a stand
 abbrev pub boardOf : ℕ → Stand → Board

@@ -1,6 +1,6 @@
 -- How long a text can be: 39 bytes for each record, and the header.
 -- Assumes nothing.
-use mathlib.Core.Path.{_≡_, refl, sym, ap, _∙_}
+use mathlib.Core.Path.{_≡_, refl}
 use mathlib.Core.Bool.{Bool, true, false, not}
 use mathlib.Core.List.{List, [], _∷_, _++_}
 use Prim.Native.Nat.{ℕ, zero, suc, _+_, _*_, _/_, _%_, _^_, _≤_, _<_}
@@ -21,7 +21,7 @@ use Rattle.board.specs.Step.{line, verdict, stepOf}
 use Rattle.board.proofs.Ways.{on}
 use Rattle.records.specs.Records.{records}
 use Rattle.records.proofs.Turns.{records-length}
-use Rattle.frames.specs.Stamps.{stampsOf, timesOf, gapOf, gapIn}
+use Rattle.frames.specs.Stamps.{stampsOf, timesOf, gapIn}
 use Rattle.frames.proofs.Gaps.{stamps-length}
 use Rattle.frames.specs.Values.{readies, valuesOf}
 use Rattle.frames.specs.Frames.{identifier, header, timeLine, valueLine, changedLines, laterFrame}

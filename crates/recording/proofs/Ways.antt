@@ -7,10 +7,8 @@ use Prim.Native.Nat.{ℕ, _+_, _*_, _/_, _%_, _≤_, _<_}
 use native.Mathlib.Omega.{arith}
 use lib.Dec.{ltb}
 use lib.ListN.{length}
-use borrow.Author.Tests.{lt-ltb, eq-eqb, ne-eqb, le-ltb, ltb-true, eqb-true, ltb-false}
+use borrow.Author.Tests.{lt-ltb, eq-eqb, ne-eqb, le-ltb, ltb-true}
 use Rattle.bits.specs.Bits.{if_then_else_, _is_}
-use Rattle.bits.proofs.Logic.{byCases}
-use Rattle.bits.proofs.Tests.{if-on, if-off}
 use Rattle.buffers.specs.Splice.{splice}
 use Rattle.board.specs.declared.Board.{Board}
 use Rattle.board.specs.declared.Look.{Look}

@@ -105,7 +105,8 @@ fn advance(size: u8, stand: Stand, event: &[u8]) -> Stand
     }
 }
 
-// The text of a time at index `at`, if there is room for it all. Answers the index behind it, with room and without.
+// The text of a time at index `at`, if there is room for it all. Answers the index behind it, with room and without. No text comes to a
+// million bytes, so that index is a number.
 fn show(out: &mut [u8], at: usize, time: u64, shown: [u8; 9], values: [u8; 9]) -> usize
     requires { ⌜ at ≤ 1000000 ⌝ }
     ensures { λ r. ⌜ (r ≡ at + length (laterFrame time shown values)) × (r ≤ at + 49) ⌝ }

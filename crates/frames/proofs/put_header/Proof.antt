@@ -1,5 +1,4 @@
 -- `frames::put_header` meets its contract. Assumes nothing.
-use native.Mathlib.Omega.{arith}
 use borrow.Author.Needs.{needs}
 use Rattle.frames.specs.Frames.{header}
 use Rattle.frames.proofs.put_header.Statement.{statement}

@@ -1,6 +1,6 @@
 -- `frames::same` meets its contract. Assumes nothing.
 use mathlib.Core.Path.{_≡_, refl, _∙_}
-use Prim.Native.Nat.{_+_, _-_, _≤_}
+use Prim.Native.Nat.{_-_, _≤_}
 use Rattle.frames.specs.Frames.{changedLines}
 use native.Mathlib.Omega.{arith}
 use borrow.Author.Needs.{needs}

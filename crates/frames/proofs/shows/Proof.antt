@@ -1,5 +1,4 @@
 -- `frames::shows` meets its contract. Assumes nothing.
-use native.Mathlib.Omega.{arith}
 use borrow.Author.Needs.{needs}
 use Rattle.bits.proofs.Tests.{bool-byte}
 use Rattle.frames.proofs.shows.Statement.{statement}

@@ -1,7 +1,6 @@
 -- `frames::values` meets its contract. Assumes nothing.
 use mathlib.Core.Path.{_≡_, sym}
 use lib.ListN.{length}
-use native.Mathlib.Omega.{arith}
 use borrow.Author.Needs.{needs}
 use Rattle.bits.proofs.Tests.{bool-byte}
 use Rattle.frames.proofs.Lines.{by-chips}

@@ -1,6 +1,4 @@
 -- `recording::advance` meets its contract. Assumes nothing.
-use mathlib.Core.Path.{_≡_}
-use native.Mathlib.Omega.{arith}
 use borrow.Author.Needs.{needs}
 use Rattle.bits.proofs.Tests.{if-on, if-off}
 use Rattle.board.proofs.Ways.{off, on}
