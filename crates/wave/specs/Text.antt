@@ -1,5 +1,5 @@
--- What the wave program makes of its two files and the size that it is asked for, and the line with which it refuses: the issue's program
--- `wave`.
+-- What the wave program makes of its two files and the size that it is asked for, and the line with which it refuses: docs/FORMATS.md,
+-- "The wave".
 -- Assumes nothing.
 use mathlib.Core.Path.{_≡_}
 use mathlib.Core.List.{List, [], _++_}
