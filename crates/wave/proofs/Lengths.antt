@@ -30,8 +30,8 @@ unfolding nextAt if_then_else_
 start limit n h = rw (le-ltb n limit h)
 
 -- a part `&mut old[at..]` was lent
-pub kept-bytes : (old part : List ℕ) {at next : ℕ} → at ≡ next → at ≤ length old → SameBefore next old (take at old ++ part)
-kept-bytes old part {at} {next} e h = rw (← e) (take-at (take at old) part at (length-take-le at old h))
+pub before-part : (old part : List ℕ) (at : ℕ) → at ≤ length old → SameBefore at old (take at old ++ part)
+before-part old part at h = take-at (take at old) part at (length-take-le at old h)
 
 -- ---- a file read in parts: what is counted is what its whole length counts as
 pub kept-more : (limit n more : ℕ) → limit % 4 ≡ 0 → keptOf limit (keptOf limit n + more) ≡ keptOf limit (n + more)

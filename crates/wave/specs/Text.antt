@@ -9,7 +9,6 @@ use lib.ListN.{take}
 use Rattle.bits.specs.Bits.{if_then_else_, _is_}
 use Rattle.buffers.specs.Text.{ascii}
 use Rattle.buffers.specs.Digits.{digitsOf}
-use Rattle.board.specs.declared.Made.{Made}
 use Rattle.board.specs.Board.{freshOf}
 use Rattle.recording.specs.declared.Exported.{Exported}
 use Rattle.recording.specs.Wave.{exportedOf, pageOf}

@@ -45,6 +45,14 @@ fn next_at(count: usize, limit: usize) -> usize
     0
 }
 
+// One read to index `at` on.
+fn read_at(fd: i32, buffer: &mut [u8], at: usize) -> isize
+    requires { ⌜ at ≤ length (now buffer) ⌝ }
+    ensures { λ _. ⌜ SameBefore at (now (buffer .entry)) (now (buffer .exit)) ⌝ }
+{
+    libc::read(fd, &mut buffer[at..])
+}
+
 // Reads what comes next; what was read before stays. A file that cannot be read is named.
 fn read_more(fd: i32, path: &[u8], buffer: &mut [u8], count: usize) -> Stand
     requires { ⌜ (4 ≤ length (now buffer)) × ((length (now buffer) ≤ 65544) × (count < length (now buffer))) ⌝ }
@@ -53,7 +61,7 @@ fn read_more(fd: i32, path: &[u8], buffer: &mut [u8], count: usize) -> Stand
 {
     let limit = buffer.len() - 4;
     let at = next_at(count, limit);
-    let got = libc::read(fd, &mut buffer[at..]);
+    let got = read_at(fd, buffer, at);
     if got < 0 {
         os::fail(path);
         return Stand {
