@@ -1,13 +1,17 @@
--- A flag's test turned over, for the crates above too; and what each way out of `signal` gives, of any values.
+-- A flag's test turned over, and that a look tells whether a board is sound, for the crates above; and what each way out of `signal` gives,
+-- of any values.
 -- Assumes nothing.
-use mathlib.Core.Path.{_≡_, refl, sym}
+use mathlib.Core.Path.{_≡_, refl, sym, ap}
 use mathlib.Core.Bool.{Bool, true, false, not}
 use mathlib.Core.List.{List}
 use Prim.Native.Nat.{ℕ}
 use borrow.Author.Tests.{ne-eqb}
 use Rattle.bits.specs.Bits.{if_then_else_}
 use Rattle.chain.specs.Marks.{callerOf}
-use Rattle.board.specs.Halves.{signalOf}
+use Rattle.board.specs.declared.Board.{Board}
+use Rattle.board.specs.declared.Look.{Look}
+use Rattle.board.specs.Board.{soundBoard}
+use Rattle.board.specs.Halves.{lookOf, signalOf}
 
 -- a flag's test turned over
 pub off : (b : Bool) → not b ≡ true → b ≡ false
@@ -17,6 +21,11 @@ off false e = refl
 pub on : (b : Bool) → not b ≡ false → b ≡ true
 on true e = refl
 on false e = sym e
+
+-- ---- a look at a board
+pub sound-is : (b : Board) (l : Look) → l ≡ lookOf (b .size) (b .chips) → l .sound ≡ soundBoard b
+unfolding lookOf soundBoard
+sound-is b l i = ap (λ (x : Look). x .sound) i
 
 -- ---- the request
 module _ (marks : List ℕ) (k : ℕ) (e : k ≡ callerOf marks) where

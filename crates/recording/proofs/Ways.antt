@@ -15,7 +15,7 @@ use Rattle.board.specs.declared.Look.{Look}
 use Rattle.board.specs.Board.{soundBoard}
 use Rattle.board.specs.Step.{line, verdict}
 use Rattle.board.specs.Halves.{lookOf}
-use Rattle.board.proofs.Ways.{on}
+use Rattle.board.proofs.Ways.{on, sound-is}
 use Rattle.records.specs.Records.{records, stepsOf}
 use Rattle.recording.specs.declared.Exported.{Exported}
 use Rattle.recording.specs.Wave.{waveText, refusalOf, waveRefusal, exportedOf, pageOf}
@@ -66,10 +66,6 @@ sooner false false false false true u f z = rw (f refl)
 sooner false false false false false u f z = absurd (z refl)
 
 -- ---- the ways out of `export`
-pub sound-is : (b : Board) (l : Look) → l ≡ lookOf (b .size) (b .chips) → l .sound ≡ soundBoard b
-unfolding lookOf soundBoard
-sound-is b l i = ap (λ (x : Look). x .sound) i
-
 -- a part of no bytes was lent, and the buffer is as it was
 pub unmoved : (m old : List ℕ) → length m ≡ 0 → m ++ old ≡ old
 unmoved [] old h = refl

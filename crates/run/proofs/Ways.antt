@@ -13,7 +13,7 @@ use Rattle.board.specs.declared.Board.{Board}
 use Rattle.board.specs.declared.Look.{Look}
 use Rattle.board.specs.Board.{soundBoard}
 use Rattle.board.specs.Halves.{lookOf}
-use Rattle.board.proofs.Ways.{on}
+use Rattle.board.proofs.Ways.{on, sound-is}
 use Rattle.run.specs.declared.Ran.{Ran}
 use Rattle.records.specs.Records.{records, stepsOf, answersOf}
 use Rattle.run.specs.Run.{refusalOf, ranOf, bufferOf}
@@ -40,10 +40,6 @@ module _ (sound : Bool) (events room start : ℕ) where
   none-refused t n h = (rw (t, eq-eqb (events % 4) 0 n, le-ltb (room / 4) (start + events / 4) h), λ z. (on sound t, (n, h)))
 
 -- ---- the ways out of `run`
-pub sound-is : (b : Board) (l : Look) → l ≡ lookOf (b .size) (b .chips) → l .sound ≡ soundBoard b
-unfolding lookOf soundBoard
-sound-is b l i = ap (λ (x : Look). x .sound) i
-
 module _ (b : Board) (es old : List ℕ) (start : ℕ) (l : Look) (i : l ≡ lookOf (b .size) (b .chips)) (code : ℕ) (e : code ≡ refusalOf (l .sound) (length es) (length old) start) where
   code-is : code ≡ refusalOf (soundBoard b) (length es) (length old) start
   code-is = e ∙ ap (λ (t : Bool). refusalOf t (length es) (length old) start) (sound-is b l i)

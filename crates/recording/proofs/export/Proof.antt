@@ -7,7 +7,8 @@ use native.Mathlib.Omega.{arith}
 use lib.ListN.{length}
 use borrow.Author.Needs.{needs}
 use Rattle.recording.specs.Wave.{waveText}
-use Rattle.recording.proofs.Ways.{sound-is, unmoved, early-refused, long-refused, exported, roomy}
+use Rattle.board.proofs.Ways.{sound-is}
+use Rattle.recording.proofs.Ways.{unmoved, early-refused, long-refused, exported, roomy}
 use Rattle.recording.proofs.export.Statement.{statement}
 use Rattle.recording.proofs.export.Tie as tie
 

@@ -2,7 +2,8 @@
 -- Assumes nothing.
 use mathlib.Core.Path.{sym, _∙_}
 use borrow.Author.Needs.{needs}
-use Rattle.run.proofs.Ways.{sound-is, run-refused, run-taken}
+use Rattle.board.proofs.Ways.{sound-is}
+use Rattle.run.proofs.Ways.{run-refused, run-taken}
 use Rattle.run.proofs.run.Statement.{statement}
 use Rattle.run.proofs.run.Tie as tie
 
