@@ -169,6 +169,10 @@ def check_refusals(export):
     for length in 0, 1, 2, 3, 5, 6:
         refused(41, export.by_program(bytes(8), bytes(length)))
     refused(41, export.by_program(b"", bytes(2)))
+    # files far longer than any recording, by their length alone
+    refused(36, export.by_program(bytes(1_000_000), b""))
+    refused(32, export.by_program(bytes(1_000_002), b""))
+    refused(41, export.by_program(bytes(8), bytes(1_000_004)))
     for size in REFUSED_SIZES:
         refused(33, export.by_program(bytes(8), bytes(4), size))
 
@@ -189,11 +193,15 @@ def only_line(said):
 
 
 def check_words(export):
-    """A file that is not there is named as it was given; a wrong number of words tells the usage."""
+    """A file that cannot be opened or read is named as it was given; a wrong number of words tells the usage."""
     export.files(events=bytes(8), stamps=bytes(4))
-    for missing, *words in ("no events", "no events", "stamps"), ("./no.stamps", "events", "./no.stamps"):
+    (export.directory / "folder").mkdir()
+    for name, trouble, *words in [("no events", errno.ENOENT, "no events", "stamps"),
+                                  ("./no.stamps", errno.ENOENT, "events", "./no.stamps"),
+                                  ("folder", errno.EISDIR, "folder", "stamps"),
+                                  ("folder", errno.EISDIR, "events", "folder")]:
         line = only_line(export.words(*words))
-        expect(line.startswith(f"{missing}: {os.strerror(errno.ENOENT)}"), f"`{line}` for {missing}")
+        expect(line == f"{name}: {os.strerror(trouble)}", f"`{line}` for {name}")
     for words in (), ("events",), ("events", "stamps", "4", "4"):
         line = only_line(export.words(*words))
         expect(line.startswith("usage: "), f"`{line}` for {len(words)} words")
