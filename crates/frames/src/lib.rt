@@ -72,7 +72,7 @@ pub fn values(size: u8, chips: [Chip; 4], request: u8) -> [u8; 9]
     ]
 }
 
-// The recording's header at the start of `out`. Answers its length; without room for it all nothing is written.
+// The recording's header at the start of `out`. Answers its length; without room for it all it is 0, and nothing is written.
 pub fn put_header(out: &mut [u8]) -> usize
     ensures { λ r. ⌜ Wrote (now (out .entry)) 0 (ifRoom (now (out .entry)) 0 257 header) (now (out .exit)) r ⌝ }
 {

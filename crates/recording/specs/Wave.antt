@@ -25,7 +25,7 @@ pub record Shot : Type 0 where
 abbrev pub shotOf : ℕ → Stepped → Shot
 shotOf time s = record { time = time; values = valuesOf (s .board .size) (s .board .chips) (s .answer .request) }
 
--- "Refused records take their time and change nothing": every record has a shot
+-- every record has a shot: a refused one takes its time and changes nothing
 unfoldable pub shotsOf : Board → List (List ℕ) → List ℕ → List Shot
 shotsOf b (e ∷ es) (t ∷ ts) = shotOf t (stepOf b e) ∷ shotsOf (stepOf b e .board) es ts
 shotsOf b [] ts = []
