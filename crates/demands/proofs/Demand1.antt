@@ -2,7 +2,7 @@
 -- Assumes nothing.
 use mathlib.Core.Path.{_≡_, refl, sym, ap, _∙_}
 use mathlib.Core.Bool.{Bool, true, false, _&&_, not, true≢false, false≢true}
-use mathlib.Core.List.{List, [], _∷_}
+use mathlib.Core.List.{List}
 use Prim.Native.Nat.{ℕ, _+_, _*_, _/_, _%_, _≤_}
 use native.Mathlib.Omega.{arith}
 use lib.Dec.{ltb}
@@ -16,7 +16,8 @@ use Rattle.board.specs.declared.Board.{Board}
 use Rattle.board.specs.Board.{soundBoard}
 use Rattle.board.specs.Step.{Line, lines, refusal, refused, stepOf}
 use Rattle.run.specs.declared.Ran.{Ran}
-use Rattle.records.specs.Records.{records, bytesOf, stepsOf, answersOf}
+use Rattle.records.specs.Records.{records, stepsOf, answersOf}
+use Rattle.records.proofs.Whole.{records-length, answers-length}
 use Rattle.run.specs.Run.{runLines, refusalOf, runRefusal, ranOf, bufferOf}
 use Rattle.demands.specs.Words.{stepCodes, runCodes, listed, decides}
 use Rattle.demands.specs.Demands.{Answered, FourBytes, NotFourBytes, AnsweredRun, EveryRun}
@@ -55,19 +56,6 @@ pub four-bytes : FourBytes
 four-bytes b e four = byCases (refusal b e is 0) (when-accepted b e four) (when-refused b e four)
 
 -- ---- the run
-records-count : (l : List ℕ) → length (records l) ≡ length l / 4
-unfolding records
-records-count [] = refl
-records-count (a ∷ []) = refl
-records-count (a ∷ b ∷ []) = refl
-records-count (a ∷ b ∷ c ∷ []) = refl
-records-count (a ∷ b ∷ c ∷ d ∷ l) = omega (arith, records-count l)
-
-answers-length : (b : Board) (es : List (List ℕ)) → length (answersOf b es) ≡ 4 * length es
-unfolding answersOf bytesOf
-answers-length b [] = refl
-answers-length b (e ∷ es) = omega (arith, answers-length (stepOf b e .board) es)
-
 -- none of three lines is true, so the third is not
 third : (x y z : Bool) → (not x && (not y && (not z && true))) ≡ true → z ≡ false
 third true y z h = absurd (false≢true h)
@@ -91,11 +79,11 @@ module _ (b : Board) (es old : List ℕ) (start : ℕ) where
   unfolding refusalOf
   fits h =
       let room = third (not (soundBoard b)) (not (length es % 4 is 0)) (ltb (length old / 4) (start + length es / 4)) (verdict-none table refl h) in
-      omega (arith, ltb-false (length old / 4) (start + length es / 4) room, answers-length b (records es), records-count es)
+      omega (arith, ltb-false (length old / 4) (start + length es / 4) room, answers-length b (records es), records-length es)
 
   ran-done : (why is 0) ≡ true → ranOf b es old start ≡ record { code = 0; records = length (records es); board = stepsOf b (records es) }
   unfolding ranOf if_then_else_
-  ran-done h = rw (h, records-count es)
+  ran-done h = rw (h, records-length es)
 
   buffer-done : (why is 0) ≡ true → bufferOf b es old start ≡ splice old (4 * start) (answersOf b (records es))
   unfolding bufferOf if_then_else_

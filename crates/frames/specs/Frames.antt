@@ -28,6 +28,7 @@ header = ascii "$timescale 1 us $end\n" ++ declared identifier names ++ ascii "$
 unfoldable pub timeLine : ℕ → List ℕ
 timeLine time = ascii "#" ++ digitsOf time ++ ascii "\n"
 
+-- 48 and 49 are the codes of 0 and 1, and 10 is the newline
 unfoldable pub valueLine : ℕ → ℕ → List ℕ
 valueLine character value = (if value is 0 then 48 else 49) ∷ character ∷ 10 ∷ []
 

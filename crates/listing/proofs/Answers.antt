@@ -18,7 +18,8 @@ use Rattle.chip.proofs.Keep.{fresh-sound}
 use Rattle.board.specs.Board.{soundBoard, freshOf}
 use Rattle.board.specs.Step.{stepOf}
 use Rattle.board.proofs.Quick.{step-sound}
-use Rattle.records.specs.Records.{records, bytesOf, stepsOf, answersOf}
+use Rattle.records.specs.Records.{records, stepsOf, answersOf}
+use Rattle.records.proofs.Whole.{records-length, answers-length}
 use Rattle.run.specs.Run.{refusalOf, ranOf, bufferOf}
 use Rattle.text.specs.Listing.{listingOf, tailOf}
 use Rattle.listing.specs.Text.{textOf}
@@ -34,20 +35,6 @@ records-whole (a ∷ b ∷ c ∷ []) = refl
 records-whole (a ∷ b ∷ c ∷ d ∷ rest) =
     let e : 4 * (suc (suc (suc (suc (length rest)))) / 4) ≡ suc (suc (suc (suc (4 * (length rest / 4))))) = omega arith in
     rw (e, records-whole rest)
-
-records-count : (es : List ℕ) → length (records es) ≡ length es / 4
-unfolding records
-records-count [] = refl
-records-count (a ∷ []) = refl
-records-count (a ∷ b ∷ []) = refl
-records-count (a ∷ b ∷ c ∷ []) = refl
-records-count (a ∷ b ∷ c ∷ d ∷ rest) = omega (arith, records-count rest)
-
--- ---- the answers to them
-answers-count : (b : Board) (rs : List (List ℕ)) → length (answersOf b rs) ≡ 4 * length rs
-unfolding answersOf bytesOf
-answers-count b [] = refl
-answers-count b (e ∷ rs) = omega (arith, answers-count (stepOf b e .board) rs)
 
 -- bytes leave the board sound
 pub stays-sound : (b : Board) (es : List ℕ) → ((i : ℕ) → Fits w8 (getD es i 0)) → soundBoard b ≡ true → soundBoard (stepsOf b (records es)) ≡ true
@@ -88,13 +75,13 @@ module _ (b : Board) (es old : List ℕ) (sound : soundBoard b ≡ true) (fits :
   abbrev answers : List ℕ
   answers = answersOf b (records es)
 
-  answers-length : length answers ≡ 4 * (length es / 4)
-  answers-length = answers-count b (records es) ∙ ap (λ (n : ℕ). 4 * n) (records-count es)
+  answers-long : length answers ≡ 4 * (length es / 4)
+  answers-long = answers-length b (records es) ∙ ap (λ (n : ℕ). 4 * n) (records-length es)
 
   -- and the buffer's first bytes are the answers
   pub answered : take (4 * (length es / 4)) (bufferOf b whole old 0) ≡ answers
   unfolding bufferOf if_then_else_ splice
-  answered = rw (accepted, records-whole es) (take-at answers (drop (0 + length answers) old) (4 * (length es / 4)) answers-length)
+  answered = rw (accepted, records-whole es) (take-at answers (drop (0 + length answers) old) (4 * (length es / 4)) answers-long)
 
   -- the lines and the tail behind them are the listing's text
   pub listed : {out m m′ : List ℕ} {at n : ℕ} (number : ℕ) → 105 * (length es / 4) + 26 ≤ length out
@@ -103,6 +90,6 @@ module _ (b : Board) (es old : List ℕ) (sound : soundBoard b ≡ true) (fits :
       → Wrote out 0 (textOf b number es) m′ n × (n ≤ 105 * (length es / 4) + 26)
   unfolding textOf
   listed {out} {m} {m′} {at} {n} number room lines few tail fewer =
-      let put = wrote-all (105 * (length answers / 4)) (omega (arith, answers-length)) lines in
-      let long = wrote-length put (omega (arith, answers-length)) in
-      (wrote-then (omega arith) put (wrote-all 26 (omega (arith, answers-length)) tail), omega (arith, answers-length))
+      let put = wrote-all (105 * (length answers / 4)) (omega (arith, answers-long)) lines in
+      let long = wrote-length put (omega (arith, answers-long)) in
+      (wrote-then (omega arith) put (wrote-all 26 (omega (arith, answers-long)) tail), omega (arith, answers-long))

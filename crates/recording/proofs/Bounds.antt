@@ -20,7 +20,7 @@ use Rattle.board.specs.Board.{soundBoard}
 use Rattle.board.specs.Step.{line, verdict, stepOf}
 use Rattle.board.proofs.Ways.{on}
 use Rattle.records.specs.Records.{records}
-use Rattle.records.proofs.Turns.{records-length}
+use Rattle.records.proofs.Whole.{records-length}
 use Rattle.frames.specs.Stamps.{stampsOf, timesOf, gapIn}
 use Rattle.frames.proofs.Gaps.{stamps-length}
 use Rattle.frames.specs.Values.{readies, valuesOf}

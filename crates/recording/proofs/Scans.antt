@@ -11,7 +11,8 @@ use Rattle.buffers.proofs.Splices.{room, splice-none, splice-next}
 use Rattle.board.specs.declared.Board.{Board}
 use Rattle.board.specs.Step.{stepOf}
 use Rattle.records.specs.Records.{records, stepsOf}
-use Rattle.records.proofs.Turns.{next, none, records-length}
+use Rattle.records.proofs.Turns.{next, none}
+use Rattle.records.proofs.Whole.{records-length}
 use Rattle.records.proofs.Kept.{Kept}
 use Rattle.records.proofs.Ways.{part-is, byte-in}
 use Rattle.frames.specs.Stamps.{stampsOf, timesOf, gapAfter}

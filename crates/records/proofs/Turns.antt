@@ -2,7 +2,7 @@
 -- Assumes nothing.
 use mathlib.Core.Path.{_≡_, refl, sym, ap, _∙_}
 use mathlib.Core.List.{List, [], _∷_}
-use Prim.Native.Nat.{ℕ, _+_, _*_, _/_, _≤_, _<_}
+use Prim.Native.Nat.{ℕ, _+_, _*_, _≤_, _<_}
 use native.Mathlib.Nat.{not-suc-le-zero, le-of-suc-le-suc, add-zero}
 use native.Mathlib.Omega.{arith}
 use lib.ListN.{length, take, drop, length-drop}
@@ -40,15 +40,6 @@ short (a ∷ b ∷ c ∷ d ∷ rest) h = absurd (not-suc-le-zero (le-of-suc-le-s
 
 pub none : (es : List ℕ) (i : ℕ) → length es < 4 * i + 4 → records (drop (4 * i) es) ≡ []
 none es i h = short (drop (4 * i) es) (omega (arith, length-drop (4 * i) es))
-
--- how many there are
-pub records-length : (es : List ℕ) → length (records es) ≡ length es / 4
-unfolding records
-records-length [] = refl
-records-length (a ∷ []) = refl
-records-length (a ∷ b ∷ []) = refl
-records-length (a ∷ b ∷ c ∷ []) = refl
-records-length (a ∷ b ∷ c ∷ d ∷ rest) = let e = records-length rest in omega (arith, e)
 
 -- ---- where the loop stands before record i, with the board that its locals hold: the rest of the run, from here, comes to the whole run
 module _ (es old : List ℕ) (start : ℕ) (b₀ : Board) (n : ℕ) where

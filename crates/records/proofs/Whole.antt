@@ -1,13 +1,27 @@
--- A run over two halves is the run over the whole: the board and the answers of the events one after the other.
+-- How many records and answers there are, and that a run over two halves is the run over the whole: the board and the answers of the
+-- events one after the other.
 -- Assumes nothing.
 use mathlib.Core.Path.{_≡_, refl, sym, ap, _∙_}
 use mathlib.Core.List.{List, [], _∷_, _++_}
-use Prim.Native.Nat.{ℕ, _%_}
+use Prim.Native.Nat.{ℕ, _*_, _/_, _%_}
 use native.Mathlib.Omega.{arith}
 use lib.ListN.{length}
 use Rattle.board.specs.declared.Board.{Board}
 use Rattle.board.specs.Step.{stepOf}
 use Rattle.records.specs.Records.{records, bytesOf, stepsOf, answersOf}
+
+pub records-length : (es : List ℕ) → length (records es) ≡ length es / 4
+unfolding records
+records-length [] = refl
+records-length (a ∷ []) = refl
+records-length (a ∷ b ∷ []) = refl
+records-length (a ∷ b ∷ c ∷ []) = refl
+records-length (a ∷ b ∷ c ∷ d ∷ rest) = omega (arith, records-length rest)
+
+pub answers-length : (b : Board) (rs : List (List ℕ)) → length (answersOf b rs) ≡ 4 * length rs
+unfolding answersOf bytesOf
+answers-length b [] = refl
+answers-length b (r ∷ rs) = omega (arith, answers-length (stepOf b r .board) rs)
 
 append-assoc : (x y z : List ℕ) → (x ++ y) ++ z ≡ x ++ (y ++ z)
 append-assoc [] y z = refl
