@@ -3,7 +3,7 @@
 use mathlib.Core.Path.{_≡_, refl, sym, ap, ap₂, _∙_}
 use mathlib.Core.Bool.{Bool, true, false, false≢true}
 use mathlib.Core.List.{List, [], _∷_, _++_, map}
-use Prim.Native.Nat.{ℕ, suc, _*_, _/_, _%_, _-_, _≤_, _<_}
+use Prim.Native.Nat.{ℕ, _+_, _*_, _/_, _%_, _-_, _≤_, _<_}
 use native.Mathlib.Omega.{arith}
 use lib.Dec.{ltb, leb}
 use lib.ListN.{length, length-take, getD, set, take, drop, take-append-drop}
@@ -24,7 +24,7 @@ use Rattle.chain.specs.declared.Decoder.{Decoder}
 use Rattle.chain.specs.Places.{adjust}
 use Rattle.chain.specs.Chain.{asker, asks, holder, flat, sideOf, acknowledged, retired}
 use Rattle.chain.specs.Decode.{shut, retiOf}
-use Rattle.chain.specs.Marks.{markOf, marksOf}
+use Rattle.chain.specs.Marks.{markOf, marksOf, callerOf}
 use Rattle.chain.proofs.Places.{adjust-length}
 use Rattle.chain.proofs.Flat.{flat-length}
 use Rattle.chain.proofs.Marks.{caller-is, holder-is, marks-set}
@@ -34,21 +34,16 @@ use Rattle.board.specs.declared.Stepped.{Stepped}
 use Rattle.board.specs.declared.Plan.{Plan}
 use Rattle.board.specs.Board.{most, there, ports, portAt, within, soundBoard, requestOf}
 use Rattle.board.specs.Step.{kindOf, placeOf, valueOf, lastOf, line, verdict, wordCode, refusal, Doing, reset, fetch, acknowledge, at, doingOf, taken, answer, answered, accepted, refused, stepOf}
-use Rattle.board.specs.Halves.{signalOf, earlyAt, idle, single, fetchAt, fetchPlan, acknowledgePlan, resetPlan, acceptedPlan, planOf, touchedOf, changedOf, blank, sweptOf, carried}
+use Rattle.board.specs.Halves.{earlyAt, idle, single, fetchAt, fetchPlan, acknowledgePlan, resetPlan, acceptedPlan, planOf, touchedOf, changedOf, blank, sweptOf, carried}
 use Rattle.board.proofs.Tables.{wordLines, refusal-is, place-there, byHeard, plain, event-plain, event-control}
 use Rattle.board.proofs.Ports.{port-at, none-released, none-answers, Still, fetch-free}
 use Rattle.board.proofs.There.{take-within, drop-within, within-set}
 use Rattle.board.proofs.Quick.{parts, quick, cleaned, after-quick}
 
--- ---- the request is what the marks signal
-signalled : (t : Bool) (k : ℕ) → _≡_ {A = ℕ} (if (if t then suc k else 0) is 0 then 0 else 1) (if t then 1 else 0)
-unfolding if_then_else_
-signalled true k = rw (ne-eqb (suc k) 0 (λ e. omega (arith, e)))
-signalled false k = refl
-
-pub signal-is : (n : ℕ) (cs : List Chip) (d : Decoder) → signalOf (marksOf n cs) ≡ requestOf (record { size = n; chips = cs; decoder = d })
-unfolding signalOf requestOf
-signal-is n cs d = rw (caller-is n cs) (signalled (asks (flat (take n cs))) (asker (flat (take n cs))))
+-- ---- the request is the caller by the marks
+pub request-is : (n : ℕ) (cs : List Chip) (d : Decoder) → callerOf (marksOf n cs) ≡ requestOf (record { size = n; chips = cs; decoder = d })
+unfolding requestOf
+request-is n cs d = caller-is n cs
 
 -- ---- what an accepted event comes to
 abbrev result : Board → Doing → ℕ → Stepped
@@ -88,18 +83,18 @@ module _ (b : Board) (s : soundBoard b ≡ true) (len : length (b .chips) ≡ mo
 
   -- the chips x, an answer that only waits for its request: the event g
   settles : (g : Doing) (v : ℕ) (x : List Chip) (f : ℕ → Answer) → ((r : ℕ) → f r ≡ answered b g v r) → x ≡ quick (b .decoder) g (there b) ++ drop (b .size) (b .chips)
-      → held b x (taken b g .decoder) (f (signalOf (marksOf (b .size) x))) ≡ result b g v
+      → held b x (taken b g .decoder) (f (callerOf (marksOf (b .size) x))) ≡ result b g v
   unfolding taken
   settles g v x f h e =
-      ap (λ (y : List Chip). held b y (taken b g .decoder) (f (signalOf (marksOf (b .size) y)))) (e ∙ chips-are g)
-      ∙ ap (λ (a : Answer). record { board = taken b g; answer = a }) (ap f (signal-is (b .size) (taken b g .chips) (taken b g .decoder)) ∙ h (requestOf (taken b g)))
+      ap (λ (y : List Chip). held b y (taken b g .decoder) (f (callerOf (marksOf (b .size) y)))) (e ∙ chips-are g)
+      ∙ ap (λ (a : Answer). record { board = taken b g; answer = a }) (ap f (request-is (b .size) (taken b g .chips) (taken b g .decoder)) ∙ h (requestOf (taken b g)))
 
   -- one chip stored, and its mark
   settles-one : (g : Doing) (v i : ℕ) (c : Chip) (f : ℕ → Answer) → i < b .size → ((r : ℕ) → f r ≡ answered b g v r)
       → set (b .chips) i c ≡ quick (b .decoder) g (there b) ++ drop (b .size) (b .chips)
-      → held b (set (b .chips) i c) (taken b g .decoder) (f (signalOf (set (marksOf (b .size) (b .chips)) i (markOf c)))) ≡ result b g v
+      → held b (set (b .chips) i c) (taken b g .decoder) (f (callerOf (set (marksOf (b .size) (b .chips)) i (markOf c)))) ≡ result b g v
   settles-one g v i c f h p e =
-      ap (λ (ms : List ℕ). held b (set (b .chips) i c) (taken b g .decoder) (f (signalOf ms))) (sym (marks-set (b .size) (b .chips) i c h))
+      ap (λ (ms : List ℕ). held b (set (b .chips) i c) (taken b g .decoder) (f (callerOf ms))) (sym (marks-set (b .size) (b .chips) i c h))
       ∙ settles g v (set (b .chips) i c) f p e
 
   stays : (x : List Chip) → x ≡ there b → b .chips ≡ x ++ drop (b .size) (b .chips)
@@ -120,7 +115,7 @@ module _ (b : Board) (s : soundBoard b ≡ true) (len : length (b .chips) ≡ mo
   fetch-nobody v e = byCases (retiOf (b .decoder) v) (λ t. rw t (ap (map chip.fetch) (none-released (there b) e))) (λ t. rw t)
 
   does-fetch : (due : Bool) (v : ℕ) → (due ≡ false → Still (there b)) → quick (b .decoder) (fetch v) (there b) ≡ map chip.fetch (there b)
-      → carried b (fetchAt (b .decoder) (marksOf (b .size) (b .chips)) due false 0 v (signalOf (marksOf (b .size) (b .chips)))) ≡ result b (fetch v) v
+      → carried b (fetchAt (b .decoder) (marksOf (b .size) (b .chips)) due false 0 v (callerOf (marksOf (b .size) (b .chips)))) ≡ result b (fetch v) v
   unfolding carried sweptOf if_then_else_ taken
   does-fetch true v right e = settles (fetch v) v (within (b .size) (map chip.fetch) (b .chips)) (answer 0 0 v) (λ q. refl) (ap (λ (l : List Chip). l ++ drop (b .size) (b .chips)) (sym e))
   does-fetch false v right e = settles (fetch v) v (b .chips) (answer 0 0 v) (λ q. refl) (stays (quick (b .decoder) (fetch v) (there b)) (e ∙ right refl))
@@ -147,7 +142,7 @@ module _ (b : Board) (s : soundBoard b ≡ true) (len : length (b .chips) ≡ mo
       ∙ ap₂ (λ (y z : List Chip). map chip.fetch y ++ z) (take-within (b .size) x (b .chips) l) (drop-within (b .size) x (b .chips) l)
 
   does-free : (due : Bool) (v k : ℕ) → (due ≡ false → Still (there b)) → retiOf (b .decoder) v ≡ true → k ≡ holder (ports b) → k < b .size * 2
-      → carried b (fetchAt (b .decoder) (marksOf (b .size) (b .chips)) due true k v (signalOf (marksOf (b .size) (b .chips)))) ≡ result b (fetch v) v
+      → carried b (fetchAt (b .decoder) (marksOf (b .size) (b .chips)) due true k v (callerOf (marksOf (b .size) (b .chips)))) ≡ result b (fetch v) v
   unfolding carried sweptOf changedOf touchedOf if_then_else_ taken
   does-free true v k right t e h =
       rw (index k h)
@@ -160,7 +155,7 @@ module _ (b : Board) (s : soundBoard b ≡ true) (len : length (b .chips) ≡ mo
       (sym (fetch-frees v k t e ∙ fetch-free (sideOf k) (k / 2) (there b) ∙ ap (adjust (on (sideOf k) released) (k / 2)) (right refl)))))
 
   -- ---- an acknowledge
-  does-nobody : (v : ℕ) → asks (ports b) ≡ false → carried b (idle shut (marksOf (b .size) (b .chips)) 3 0 255 (signalOf (marksOf (b .size) (b .chips)))) ≡ result b acknowledge v
+  does-nobody : (v : ℕ) → asks (ports b) ≡ false → carried b (idle shut (marksOf (b .size) (b .chips)) 3 0 255 (callerOf (marksOf (b .size) (b .chips)))) ≡ result b acknowledge v
   unfolding carried if_then_else_ taken
   does-nobody v e = settles acknowledge v (b .chips) (answer 3 0 255) (λ q. rw e) (stays (acknowledged (there b)) (none-answers (there b) e))
 
@@ -169,7 +164,7 @@ module _ (b : Board) (s : soundBoard b ≡ true) (len : length (b .chips) ≡ mo
   serving k e = rw e
 
   does-answer : (v k : ℕ) → asks (ports b) ≡ true → k ≡ asker (ports b) → k < b .size * 2
-      → carried b (single shut (marksOf (b .size) (b .chips)) 2 2 k 0 (signalOf (marksOf (b .size) (b .chips)))) ≡ result b acknowledge v
+      → carried b (single shut (marksOf (b .size) (b .chips)) 2 2 k 0 (callerOf (marksOf (b .size) (b .chips)))) ≡ result b acknowledge v
   unfolding carried changedOf touchedOf if_then_else_ taken
   does-answer v k t e h =
       rw (index k h)
@@ -191,7 +186,7 @@ module _ (b : Board) (s : soundBoard b ≡ true) (len : length (b .chips) ≡ mo
 
   does-at : (kind place v : ℕ) (e : Event) → (kind is 1) ≡ false → (kind is 2) ≡ false → eventOf kind v ≡ e → place < b .size * 2
       → ((q : ℕ) → answer (codeAt (sideOf place) e (chipAt place)) place (valueAt (sideOf place) e v (chipAt place)) q ≡ answered b (at place e) v q)
-      → carried b (single (b .decoder) (marksOf (b .size) (b .chips)) kind 0 place v (signalOf (marksOf (b .size) (b .chips)))) ≡ result b (at place e) v
+      → carried b (single (b .decoder) (marksOf (b .size) (b .chips)) kind 0 place v (callerOf (marksOf (b .size) (b .chips)))) ≡ result b (at place e) v
   unfolding carried changedOf touchedOf actOf if_then_else_ taken
   does-at kind place v e f g i h p =
       rw (f, g, i, index place h)
@@ -201,13 +196,13 @@ module _ (b : Board) (s : soundBoard b ≡ true) (len : length (b .chips) ≡ mo
   -- a control byte that is refused
   does-nothing : (kind place v code : ℕ) → (kind is 1) ≡ false → (kind is 2) ≡ false → (kind is 3) ≡ true → place < b .size * 2
       → codeOf (heard (sideOf place) v (chipAt place)) ≡ code → stepWord (sideOf place) (heard (sideOf place) v (chipAt place)) (chipAt place) ≡ chipAt place
-      → carried b (single (b .decoder) (marksOf (b .size) (b .chips)) kind 0 place v (signalOf (marksOf (b .size) (b .chips)))) ≡ record { board = b; answer = answer code place v (requestOf b) }
+      → carried b (single (b .decoder) (marksOf (b .size) (b .chips)) kind 0 place v (callerOf (marksOf (b .size) (b .chips)))) ≡ record { board = b; answer = answer code place v (requestOf b) }
   unfolding carried changedOf touchedOf actOf step if_then_else_
   does-nothing kind place v code f g t h c w =
       rw (f, g, event-control kind v t, index place h, w, c)
-      (ap (λ (ms : List ℕ). held b (set (b .chips) (place / 2) (chipAt place)) (b .decoder) (answer code place v (signalOf ms))) (sym (marks-set (b .size) (b .chips) (place / 2) (chipAt place) (omega arith)))
-      ∙ ap (λ (x : List Chip). held b x (b .decoder) (answer code place v (signalOf (marksOf (b .size) x)))) (set-getD (b .chips) (place / 2) blank)
-      ∙ ap (λ (r : ℕ). record { board = b; answer = answer code place v r }) (signal-is (b .size) (b .chips) (b .decoder)))
+      (ap (λ (ms : List ℕ). held b (set (b .chips) (place / 2) (chipAt place)) (b .decoder) (answer code place v (callerOf ms))) (sym (marks-set (b .size) (b .chips) (place / 2) (chipAt place) (omega arith)))
+      ∙ ap (λ (x : List Chip). held b x (b .decoder) (answer code place v (callerOf (marksOf (b .size) x)))) (set-getD (b .chips) (place / 2) blank)
+      ∙ ap (λ (r : ℕ). record { board = b; answer = answer code place v r }) (request-is (b .size) (b .chips) (b .decoder)))
 
   -- ---- the event's four bytes
   module _ (due : Bool) (right : due ≡ false → Still (there b)) (e : List ℕ) where
@@ -219,10 +214,10 @@ module _ (b : Board) (s : soundBoard b ≡ true) (len : length (b .chips) ≡ mo
     stops l = rw l
 
     module _ (l : (length e is 4) ≡ true) where
-      refuses : (earlyAt (b .size) e is 0) ≡ false → carried b (idle (b .decoder) marks (earlyAt (b .size) e) (placeOf e) (valueOf e) (signalOf marks)) ≡ stepOf b e
+      refuses : (earlyAt (b .size) e is 0) ≡ false → carried b (idle (b .decoder) marks (earlyAt (b .size) e) (placeOf e) (valueOf e) (callerOf marks)) ≡ stepOf b e
       unfolding carried if_then_else_
       refuses z =
-          ap (λ (r : ℕ). record { board = b; answer = answer (earlyAt (b .size) e) (placeOf e) (valueOf e) r }) (signal-is (b .size) (b .chips) (b .decoder))
+          ap (λ (r : ℕ). record { board = b; answer = answer (earlyAt (b .size) e) (placeOf e) (valueOf e) r }) (request-is (b .size) (b .chips) (b .decoder))
           ∙ sym (step-refuses b e (earlyAt (b .size) e) l (refusal-is b e s ∙ if-off (earlyAt (b .size) e is 0) _ _ z) z s)
 
       module _ (z : (earlyAt (b .size) e is 0) ≡ true) where
@@ -238,43 +233,43 @@ module _ (b : Board) (s : soundBoard b ≡ true) (len : length (b .chips) ≡ mo
         not-three : (m : ℕ) → (m is 3) ≡ false → (kindOf e is m) ≡ true → (kindOf e is 3) ≡ false
         not-three m n k = rw (eqb-true (kindOf e) m k) n
 
-        by-fetch : (kindOf e is 1) ≡ true → carried b (fetchPlan (b .decoder) marks due (valueOf e) (signalOf marks)) ≡ stepOf b e
+        by-fetch : (kindOf e is 1) ≡ true → carried b (fetchPlan (b .decoder) marks due (valueOf e) (callerOf marks)) ≡ stepOf b e
         unfolding fetchPlan doingOf if_then_else_
         by-fetch k =
             let v = valueOf e in
             let kind = eqb-true (kindOf e) 1 k in
-            takes (fetch v) (carried b (fetchPlan (b .decoder) marks due v (signalOf marks))) (rw kind) (not-three 1 refl k)
+            takes (fetch v) (carried b (fetchPlan (b .decoder) marks due v (callerOf marks))) (rw kind) (not-three 1 refl k)
             (byCases (retiOf (b .decoder) v)
             (λ t. rw (t, holder-is (b .size) (b .chips))
             (byCases (ltb (holder (ports b)) (length (ports b)))
-            (λ u. rw (u, ne-eqb (suc (holder (ports b))) 0 (λ n. omega (arith, n)))
-            (does-free due v (suc (holder (ports b)) - 1) right t (omega arith) (omega (arith, ltb-true (holder (ports b)) (length (ports b)) u, places))))
+            (λ u. rw (u, ne-eqb (holder (ports b) + 1) 0 (λ n. omega (arith, n)))
+            (does-free due v (holder (ports b) + 1 - 1) right t (omega arith) (omega (arith, ltb-true (holder (ports b)) (length (ports b)) u, places))))
             (λ u. rw u (does-fetch due v right (fetch-nobody v u)))))
             (λ t. rw t (does-fetch due v right (fetch-still v t))))
 
-        by-reset : (kindOf e is 0) ≡ true → carried b (resetPlan marks (valueOf e) (signalOf marks)) ≡ stepOf b e
+        by-reset : (kindOf e is 0) ≡ true → carried b (resetPlan marks (valueOf e) (callerOf marks)) ≡ stepOf b e
         unfolding doingOf if_then_else_
-        by-reset k = takes reset (carried b (resetPlan marks (valueOf e) (signalOf marks))) (rw k) (not-three 0 refl k) (does-reset (valueOf e) (signalOf marks))
+        by-reset k = takes reset (carried b (resetPlan marks (valueOf e) (callerOf marks))) (rw k) (not-three 0 refl k) (does-reset (valueOf e) (callerOf marks))
 
-        plan-answer : asks (ports b) ≡ true → acknowledgePlan marks (signalOf marks) ≡ single shut marks 2 2 (suc (asker (ports b)) - 1) 0 (signalOf marks)
+        plan-answer : asks (ports b) ≡ true → acknowledgePlan marks (callerOf marks) ≡ single shut marks 2 2 (asker (ports b) + 1 - 1) 0 (callerOf marks)
         unfolding acknowledgePlan if_then_else_
-        plan-answer t = rw (caller-is (b .size) (b .chips), t, ne-eqb (suc (asker (ports b))) 0 (λ n. omega (arith, n)))
+        plan-answer t = rw (caller-is (b .size) (b .chips), t, ne-eqb (asker (ports b) + 1) 0 (λ n. omega (arith, n)))
 
-        plan-nobody : asks (ports b) ≡ false → acknowledgePlan marks (signalOf marks) ≡ idle shut marks 3 0 255 (signalOf marks)
+        plan-nobody : asks (ports b) ≡ false → acknowledgePlan marks (callerOf marks) ≡ idle shut marks 3 0 255 (callerOf marks)
         unfolding acknowledgePlan if_then_else_
         plan-nobody t = rw (caller-is (b .size) (b .chips), t)
 
-        by-acknowledge : (kindOf e is 2) ≡ true → carried b (acknowledgePlan marks (signalOf marks)) ≡ stepOf b e
+        by-acknowledge : (kindOf e is 2) ≡ true → carried b (acknowledgePlan marks (callerOf marks)) ≡ stepOf b e
         unfolding doingOf if_then_else_
         by-acknowledge k =
-            takes acknowledge (carried b (acknowledgePlan marks (signalOf marks))) (rw (eqb-true (kindOf e) 2 k)) (not-three 2 refl k)
+            takes acknowledge (carried b (acknowledgePlan marks (callerOf marks))) (rw (eqb-true (kindOf e) 2 k)) (not-three 2 refl k)
             (byCases (asks (ports b))
             (λ t. ap (carried b) (plan-answer t)
-            ∙ does-answer (valueOf e) (suc (asker (ports b)) - 1) t (omega arith) (omega (arith, ltb-true (asker (ports b)) (length (ports b)) t, places)))
+            ∙ does-answer (valueOf e) (asker (ports b) + 1 - 1) t (omega arith) (omega (arith, ltb-true (asker (ports b)) (length (ports b)) t, places)))
             (λ t. ap (carried b) (plan-nobody t) ∙ does-nobody (valueOf e) t))
 
         abbrev atPlan : Plan
-        atPlan = single (b .decoder) marks (kindOf e) 0 (placeOf e) (valueOf e) (signalOf marks)
+        atPlan = single (b .decoder) marks (kindOf e) 0 (placeOf e) (valueOf e) (callerOf marks)
 
         doing-at : (kindOf e is 0) ≡ false → (kindOf e is 1) ≡ false → (kindOf e is 2) ≡ false → doingOf e ≡ at (placeOf e) (eventOf (kindOf e) (valueOf e))
         unfolding doingOf if_then_else_
@@ -311,7 +306,7 @@ module _ (b : Board) (s : soundBoard b ≡ true) (len : length (b .chips) ≡ mo
             (does-at (kindOf e) (placeOf e) (valueOf e) (eventOf (kindOf e) (valueOf e)) j k refl on-board
             (answer-plain (placeOf e) (valueOf e) (eventOf (kindOf e) (valueOf e)) on-board (event-plain (kindOf e) (valueOf e) t))))
 
-        goes-on : carried b (acceptedPlan (b .decoder) marks due (signalOf marks) (kindOf e) (placeOf e) (valueOf e)) ≡ stepOf b e
+        goes-on : carried b (acceptedPlan (b .decoder) marks due (callerOf marks) (kindOf e) (placeOf e) (valueOf e)) ≡ stepOf b e
         unfolding acceptedPlan if_then_else_
         goes-on =
             byCases (kindOf e is 1) (λ j. rw j (by-fetch j)) (λ j. rw j
@@ -319,7 +314,7 @@ module _ (b : Board) (s : soundBoard b ≡ true) (len : length (b .chips) ≡ mo
             (byCases (kindOf e is 2) (λ k. rw k (by-acknowledge k)) (λ k. rw k (by-place i j k))))))
 
     -- THE HALVES ARE THE STEP
-    pub halves : carried b (planOf (b .size) (b .decoder) marks due (signalOf marks) e) ≡ stepOf b e
+    pub halves : carried b (planOf (b .size) (b .decoder) marks due (callerOf marks) e) ≡ stepOf b e
     unfolding planOf if_then_else_
     halves =
         byCases (length e is 4) (λ l. rw l

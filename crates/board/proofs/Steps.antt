@@ -28,8 +28,8 @@ use Rattle.board.specs.declared.Changed.{Changed}
 use Rattle.board.specs.declared.Swept.{Swept}
 use Rattle.board.specs.Board.{most, there, sizeOk, soundAll, soundBoard, linesOf}
 use Rattle.board.specs.Step.{placeOf, valueOf, refusal, refused, answer, stepOf}
-use Rattle.board.specs.Halves.{stirsPort, stirs, stirsSome, lookOf, idle, firstOf, changedOf, blank, sweptOf, joined, wholly, singly, idly, carried}
-use Rattle.board.proofs.Ways.{off, on}
+use Rattle.board.specs.Halves.{stirsPort, stirs, stirsSome, lookOf, idle, seenPlan, firstOf, changedOf, blank, sweptOf, joined, wholly, singly, idly, carried}
+use Rattle.board.proofs.Ways.{off, on, sound-is}
 use Rattle.board.proofs.Ports.{Still}
 use Rattle.board.proofs.Halves.{port-there, halves}
 
@@ -75,7 +75,7 @@ unsound-bad b e s l = rw (l, unsound-refused b e s, s)
 
 -- THE STEP OF ANY BOARD IS ITS HALVES
 pub first-is : (b : Board) (e : List ℕ) → length (b .chips) ≡ most → carried b (firstOf b e) ≡ stepOf b e
-unfolding firstOf lookOf soundBoard if_then_else_
+unfolding seenPlan lookOf soundBoard if_then_else_
 first-is b e len =
     byCases (soundBoard b)
     (λ s. rw s (halves b s len (stirsSome (there b)) (quiet (there b)) e))
@@ -111,10 +111,6 @@ module _ (b : Board) (e : List ℕ) (w : Plan) (len : length (b .chips) ≡ most
   step-single r t h = ap (singly b w) h ∙ carried-single b w t ∙ ap (carried b) i ∙ first-is b e len
 
 -- ---- the driven lines
-sound-look : (b : Board) (l : Look) → l ≡ lookOf (b .size) (b .chips) → l .sound ≡ soundBoard b
-unfolding lookOf soundBoard
-sound-look b l i = ap (λ (x : Look). x .sound) i
-
 size-most : (b : Board) → soundBoard b ≡ true → b .size ≤ most
 unfolding soundBoard
 size-most b s = leb-true (b .size) most (both (leb 1 (b .size)) (leb (b .size) most) (both (sizeOk (b .size)) (soundAll (there b)) s .0) .1)
@@ -122,10 +118,10 @@ size-most b s = leb-true (b .size) most (both (leb 1 (b .size)) (leb (b .size) m
 module _ (b : Board) (place : ℕ) (l : Look) (i : l ≡ lookOf (b .size) (b .chips)) where
   pub lines-unsound : not (l .sound) ≡ true → _≡_ {A = Lines} (record { code = 35; levels = 0; driven = 0 }) (linesOf b place)
   unfolding linesOf if_then_else_
-  lines-unsound t = rw (sym (sound-look b l i) ∙ off (l .sound) t)
+  lines-unsound t = rw (sym (sound-is b l i) ∙ off (l .sound) t)
 
   sound-here : not (l .sound) ≡ false → soundBoard b ≡ true
-  sound-here t = sym (sound-look b l i) ∙ on (l .sound) t
+  sound-here t = sym (sound-is b l i) ∙ on (l .sound) t
 
   pub in-array : not (l .sound) ≡ false → place / 2 < b .size → place / 2 < most
   in-array t h = omega (arith, size-most b (sound-here t))

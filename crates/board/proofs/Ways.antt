@@ -1,17 +1,11 @@
--- A flag's test turned over, and that a look tells whether a board is sound, for the crates above; and what each way out of `signal` gives,
--- of any values.
+-- A flag's test turned over, and that a look tells whether a board is sound, for the crates above.
 -- Assumes nothing.
 use mathlib.Core.Path.{_≡_, refl, sym, ap}
 use mathlib.Core.Bool.{Bool, true, false, not}
-use mathlib.Core.List.{List}
-use Prim.Native.Nat.{ℕ}
-use borrow.Author.Tests.{ne-eqb}
-use Rattle.bits.specs.Bits.{if_then_else_}
-use Rattle.chain.specs.Marks.{callerOf}
 use Rattle.board.specs.declared.Board.{Board}
 use Rattle.board.specs.declared.Look.{Look}
 use Rattle.board.specs.Board.{soundBoard}
-use Rattle.board.specs.Halves.{lookOf, signalOf}
+use Rattle.board.specs.Halves.{lookOf}
 
 -- a flag's test turned over
 pub off : (b : Bool) → not b ≡ true → b ≡ false
@@ -26,13 +20,3 @@ on false e = sym e
 pub sound-is : (b : Board) (l : Look) → l ≡ lookOf (b .size) (b .chips) → l .sound ≡ soundBoard b
 unfolding lookOf soundBoard
 sound-is b l i = ap (λ (x : Look). x .sound) i
-
--- ---- the request
-module _ (marks : List ℕ) (k : ℕ) (e : k ≡ callerOf marks) where
-  pub signal-none : k ≡ 0 → 0 ≡ signalOf marks
-  unfolding signalOf if_then_else_
-  signal-none z = rw (← e, z)
-
-  pub signal-some : (k ≡ 0 → ⊥) → 1 ≡ signalOf marks
-  unfolding signalOf if_then_else_
-  signal-some z = rw (← e, ne-eqb k 0 z)

@@ -2,7 +2,7 @@
 -- Assumes nothing.
 use mathlib.Core.Bool.{Bool, true, _&&_, not}
 use mathlib.Core.List.{List, [], _∷_, _++_}
-use Prim.Native.Nat.{ℕ, _*_}
+use Prim.Native.Nat.{ℕ, _+_, _*_}
 use lib.Dec.{ltb, leb}
 use lib.ListN.{getD, take, drop, replicate}
 use Rattle.bits.specs.Bits.{if_then_else_}
@@ -11,7 +11,7 @@ use Rattle.port.specs.declared.Port.{Port}
 use Rattle.chip.specs.declared.Chip.{Chip}
 use Rattle.chip.specs.Chip.{freshChip}
 use Rattle.chip.specs.Sound.{soundChip}
-use Rattle.chain.specs.Chain.{flat, asks}
+use Rattle.chain.specs.Chain.{flat, asker, asks}
 use Rattle.chain.specs.Decode.{shut}
 use Rattle.board.specs.declared.Board.{Board}
 use Rattle.board.specs.declared.Lines.{Lines}
@@ -55,9 +55,9 @@ freshOf n =
     if sizeOk n then record { code = 0; board = blankBoard n } else
     record { code = 33; board = blankBoard 0 }
 
--- ---- the request: 1 if the board asks the CPU for an interrupt, else 0
+-- ---- the request, document 02, Ask 2: "name the nearest asking place: the fourth answer byte is 0 for none and otherwise place + 1"
 unfoldable pub requestOf : Board → ℕ
-requestOf b = if asks (ports b) then 1 else 0
+requestOf b = if asks (ports b) then asker (ports b) + 1 else 0
 
 -- ---- "The question for driven lines gives code 0 and two bytes for a place: the levels, and a 1 for each driven line; it is
 -- refused with 35, then 17, both bytes 0"

@@ -42,10 +42,6 @@ stirsSome (c ∷ cs) = stirs c || stirsSome cs
 unfoldable pub lookOf : ℕ → List Chip → Look
 lookOf n cs = record { sound = sizeOk n && soundAll (take n cs); due = stirsSome (take n cs); marks = marksOf n cs }
 
--- the request, by the marks
-unfoldable pub signalOf : List ℕ → ℕ
-signalOf marks = if callerOf marks is 0 then 0 else 1
-
 -- ---- the first half
 -- the refusals that need no look at a port: 16, 17, 18
 unfoldable pub earlyOf : ℕ → ℕ → ℕ → ℕ → ℕ → ℕ
@@ -77,10 +73,11 @@ fetchPlan d marks due value request =
     if holderOf marks is 0 then fetchAt d marks due false 0 value request else
     fetchAt d marks due true (holderOf marks - 1) value request
 
+-- an acknowledge goes to the place that the request names
 unfoldable pub acknowledgePlan : List ℕ → ℕ → Plan
 acknowledgePlan marks request =
-    if callerOf marks is 0 then idle shut marks 3 0 255 request else
-    single shut marks 2 2 (callerOf marks - 1) 0 request
+    if request is 0 then idle shut marks 3 0 255 request else
+    single shut marks 2 2 (request - 1) 0 request
 
 abbrev pub resetPlan : List ℕ → ℕ → ℕ → Plan
 resetPlan marks value request =
@@ -106,17 +103,13 @@ planOf size d marks due request e =
 -- the first half after a look at any board: 32 and 35 come before all else
 unfoldable pub seenPlan : ℕ → Decoder → Look → List ℕ → Plan
 seenPlan size d l e =
-    if l .sound then planOf size d (l .marks) (l .due) (signalOf (l .marks)) e else
+    if l .sound then planOf size d (l .marks) (l .due) (callerOf (l .marks)) e else
     if not (length e is 4) then idle d (l .marks) 32 0 0 0 else
     idle d (l .marks) 35 (placeOf e) (valueOf e) 0
 
 -- the first half for any board
-unfoldable pub firstOf : Board → List ℕ → Plan
-firstOf b e =
-    if lookOf (b .size) (b .chips) .sound
-    then planOf (b .size) (b .decoder) (marksOf (b .size) (b .chips)) (stirsSome (take (b .size) (b .chips))) (signalOf (marksOf (b .size) (b .chips))) e
-    else if not (length e is 4) then idle (b .decoder) (marksOf (b .size) (b .chips)) 32 0 0 0
-    else idle (b .decoder) (marksOf (b .size) (b .chips)) 35 (placeOf e) (valueOf e) 0
+abbrev pub firstOf : Board → List ℕ → Plan
+firstOf b e = seenPlan (b .size) (b .decoder) (lookOf (b .size) (b .chips)) e
 
 -- ---- the second half
 -- one chip: a RETI's release, an acknowledge's service, or an event of kinds 3 to 7
@@ -131,7 +124,7 @@ withActed w r = record {
   chip = r .chip;
   marks = set (w .marks) (w .chip) (markOf (r .chip));
   due = stirs (r .chip);
-  answer = answer (r .code) (w .place) (r .value) (signalOf (set (w .marks) (w .chip) (markOf (r .chip))));
+  answer = answer (r .code) (w .place) (r .value) (callerOf (set (w .marks) (w .chip) (markOf (r .chip))));
 }
 
 unfoldable pub changedOf : Chip → Plan → Changed
@@ -154,7 +147,7 @@ abbrev pub freedOf : List Chip → Plan → List Chip
 freedOf cs w = if w .one then set cs (w .chip) (release (side (w .second)) (getD cs (w .chip) blank)) else cs
 
 abbrev pub withSwept : ℕ → List Chip → Plan → Swept
-withSwept n cs w = record { chips = cs; marks = marksOf n cs; answer = answer 0 0 (w .value) (signalOf (marksOf n cs)) }
+withSwept n cs w = record { chips = cs; marks = marksOf n cs; answer = answer 0 0 (w .value) (callerOf (marksOf n cs)) }
 
 unfoldable pub sweptOf : ℕ → List Chip → Plan → Swept
 sweptOf n cs w = withSwept n (within n (map (sweepOf (w .kind))) (freedOf cs w)) w

@@ -6,7 +6,7 @@ use chip::Chip;
 ghost use mathlib.Core.Path.{_≡_};
 ghost use lib.ListN.{length};
 ghost use Rattle.board.specs.Board.{freshOf, linesOf};
-ghost use Rattle.board.specs.Halves.{stirs, lookOf, signalOf};
+ghost use Rattle.board.specs.Halves.{stirs, lookOf};
 
 #[repr(C)]
 pub struct Board {
@@ -146,17 +146,6 @@ pub fn look_over(size: u8, chips: [Chip; 4]) -> Look
         due: due,
         marks: marks,
     }
-}
-
-// The request, by the marks.
-pub fn signal(marks: [u8; 4]) -> u8
-    ensures { λ r. ⌜ r ≡ signalOf marks ⌝ }
-{
-    let k = chain::caller(marks);
-    if k == 0 {
-        return 0;
-    }
-    1
 }
 
 // The lines driven at a place: the levels, and a 1 for each driven line.

@@ -34,11 +34,14 @@ unfolding if_then_else_
 next-if true k = refl
 next-if false k = refl
 
-named-is : (s : List Bool) → named s ≡ (if ltb (first s) (length s) then suc (first s) else 0)
+counted : (s : List Bool) → named s ≡ (if ltb (first s) (length s) then suc (first s) else 0)
 unfolding if_then_else_
-named-is [] = refl
-named-is (true ∷ s) = rw (leb·suc-suc 0 (length s), leb·zero)
-named-is (false ∷ s) = rw (leb·suc-suc (suc (first s)) (length s), named-is s) (next-if (ltb (first s) (length s)) (first s))
+counted [] = refl
+counted (true ∷ s) = rw (leb·suc-suc 0 (length s), leb·zero)
+counted (false ∷ s) = rw (leb·suc-suc (suc (first s)) (length s), counted s) (next-if (ltb (first s) (length s)) (first s))
+
+named-is : (s : List Bool) → named s ≡ (if ltb (first s) (length s) then first s + 1 else 0)
+named-is s = counted s ∙ ap (λ (k : ℕ). if ltb (first s) (length s) then k else 0) (omega arith)
 
 asking-length : (free : Bool) (ps : List Port) → length (asking free ps) ≡ length ps
 asking-length free [] = refl
@@ -112,10 +115,10 @@ holder-named (suc n) (c ∷ cs) =
     held-chip (under (c .a)) (ready (c .a)) (under (c .b)) (ready (c .b)) (holderOf (marksOf n cs)) (map under (flat (take n cs))) (holder-named n cs)
 
 -- WHO ASKS, WHO IS RELEASED: the place and 1, or 0
-pub caller-is : (n : ℕ) (cs : List Chip) → callerOf (marksOf n cs) ≡ (if asks (flat (take n cs)) then suc (asker (flat (take n cs))) else 0)
+pub caller-is : (n : ℕ) (cs : List Chip) → callerOf (marksOf n cs) ≡ (if asks (flat (take n cs)) then asker (flat (take n cs)) + 1 else 0)
 caller-is n cs = caller-named n cs ∙ named-is (asking true (flat (take n cs))) ∙ rw (asking-length true (flat (take n cs)))
 
-pub holder-is : (n : ℕ) (cs : List Chip) → holderOf (marksOf n cs) ≡ (if ltb (holder (flat (take n cs))) (length (flat (take n cs))) then suc (holder (flat (take n cs))) else 0)
+pub holder-is : (n : ℕ) (cs : List Chip) → holderOf (marksOf n cs) ≡ (if ltb (holder (flat (take n cs))) (length (flat (take n cs))) then holder (flat (take n cs)) + 1 else 0)
 holder-is n cs = holder-named n cs ∙ named-is (map under (flat (take n cs))) ∙ rw (length-map (flat (take n cs)) under)
 
 -- ---- a chip changed is a mark changed

@@ -2,7 +2,6 @@
 // knows of modes: a port is live, waits, is under service.
 use chip::Chip;
 ghost use mathlib.Core.Path.{_≡_};
-ghost use Prim.Native.Nat.{_≤_};
 ghost use Rattle.bits.specs.Bits.{if_then_else_};
 ghost use Rattle.chain.specs.Decode.{nextOf, retiOf};
 ghost use Rattle.chain.specs.Marks.{markOf, callerOf, holderOf};
@@ -56,8 +55,8 @@ pub fn mark(c: Chip) -> u8
 }
 
 // The place of the nearest asking port and 1, or 0 if none asks.
-pub fn caller(marks: [u8; 4]) -> usize
-    ensures { λ r. ⌜ (r ≡ callerOf marks) × (r ≤ 255) ⌝ }
+pub fn caller(marks: [u8; 4]) -> u8
+    ensures { λ r. ⌜ r ≡ callerOf marks ⌝ }
 {
     let mut i: usize = 0;
     while i < 4 {
@@ -66,7 +65,7 @@ pub fn caller(marks: [u8; 4]) -> usize
             return 0;
         }
         if met != 0 {
-            return 2 * i + met as usize;
+            return 2 * i as u8 + met;
         }
         i += 1;
     }

@@ -81,11 +81,11 @@ rows =
     (held 0 1 0 0 false false false false false 0 0 0 0 ∷ [])
     -- P10 place 2 under service, place 0 asking, ED, 4D: place 2 released, place 0 still waiting. A waiting port does not block RETI
     ∷ row 2 0 2 (ev 3 2 131 ∷ ev 3 0 131 ∷ ev 1 0 0 ∷ ev 6 2 0 ∷ ev 6 2 1 ∷ ev 2 0 0 ∷ ev 6 0 0 ∷ ev 6 0 1 ∷ ev 1 0 237 ∷ ev 1 0 77 ∷ [])
-    (an 0 2 131 0 ∷ an 0 0 131 0 ∷ an 0 0 0 0 ∷ an 0 2 0 0 ∷ an 0 2 1 1 ∷ an 2 2 0 0 ∷ an 0 0 0 0 ∷ an 0 0 1 1 ∷ an 0 0 237 1 ∷ an 0 0 77 1 ∷ [])
+    (an 0 2 131 0 ∷ an 0 0 131 0 ∷ an 0 0 0 0 ∷ an 0 2 0 0 ∷ an 0 2 1 3 ∷ an 2 2 0 0 ∷ an 0 0 0 0 ∷ an 0 0 1 1 ∷ an 0 0 237 1 ∷ an 0 0 77 1 ∷ [])
     (held 0 1 0 0 false false true true false 0 0 0 0 ∷ held 2 1 0 0 false false false true false 0 0 0 0 ∷ [])
     -- P11 ED, 0, 4D: nothing
     ∷ row 2 0 2 (ev 3 2 131 ∷ ev 1 0 0 ∷ ev 6 2 0 ∷ ev 6 2 1 ∷ ev 2 0 0 ∷ ev 1 0 237 ∷ ev 1 0 0 ∷ ev 1 0 77 ∷ [])
-    (an 0 2 131 0 ∷ an 0 0 0 0 ∷ an 0 2 0 0 ∷ an 0 2 1 1 ∷ an 2 2 0 0 ∷ an 0 0 237 0 ∷ an 0 0 0 0 ∷ an 0 0 77 0 ∷ [])
+    (an 0 2 131 0 ∷ an 0 0 0 0 ∷ an 0 2 0 0 ∷ an 0 2 1 3 ∷ an 2 2 0 0 ∷ an 0 0 237 0 ∷ an 0 0 0 0 ∷ an 0 0 77 0 ∷ [])
     (held 2 1 0 0 false false false true true 0 0 0 0 ∷ [])
     -- P12 mode 3, AND, mask 255: no match. AND over no lines is not taken as true
     ∷ row 1 0 1 (ev 3 0 207 ∷ ev 3 0 255 ∷ ev 3 0 119 ∷ ev 3 0 255 ∷ ev 7 0 255 ∷ [])
@@ -101,7 +101,7 @@ rows =
     (held 0 1 0 0 false false false true true 0 0 0 0 ∷ [])
     -- RETI does not clear every port of its chip: B under service, then A; RETI releases A alone
     ∷ row 1 0 1 (ev 3 0 131 ∷ ev 3 1 131 ∷ ev 1 0 0 ∷ ev 6 1 0 ∷ ev 6 1 1 ∷ ev 2 0 0 ∷ ev 6 0 0 ∷ ev 6 0 1 ∷ ev 2 0 0 ∷ ev 1 0 237 ∷ ev 1 0 77 ∷ [])
-    (an 0 0 131 0 ∷ an 0 1 131 0 ∷ an 0 0 0 0 ∷ an 0 1 0 0 ∷ an 0 1 1 1 ∷ an 2 1 0 0 ∷ an 0 0 0 0 ∷ an 0 0 1 1 ∷ an 2 0 0 0 ∷ an 0 0 237 0 ∷ an 0 0 77 0 ∷ [])
+    (an 0 0 131 0 ∷ an 0 1 131 0 ∷ an 0 0 0 0 ∷ an 0 1 0 0 ∷ an 0 1 1 2 ∷ an 2 1 0 0 ∷ an 0 0 0 0 ∷ an 0 0 1 1 ∷ an 2 0 0 0 ∷ an 0 0 237 0 ∷ an 0 0 77 0 ∷ [])
     (held 0 1 0 0 false false false true false 0 0 0 0 ∷ held 1 1 0 0 false false false true true 0 0 0 0 ∷ [])
     -- a strobe is not ignored because interrupts are off
     ∷ row 1 0 1 (ev 6 0 0 ∷ ev 6 0 1 ∷ ev 3 0 131 ∷ ev 1 0 0 ∷ [])
@@ -134,7 +134,7 @@ rows =
     (held 0 2 0 0 false false true true false 0 0 0 0 ∷ [])
     -- mode 2, input: B's strobe low, A's register follows A's lines; at the rise B waits, with B's vector; A's register stays
     ∷ row 1 0 1 (ev 3 0 143 ∷ ev 3 1 64 ∷ ev 3 1 131 ∷ ev 1 0 0 ∷ ev 7 0 85 ∷ ev 6 1 0 ∷ ev 6 1 1 ∷ ev 7 0 3 ∷ ev 5 0 0 ∷ ev 2 0 0 ∷ [])
-    (an 0 0 143 0 ∷ an 0 1 64 0 ∷ an 0 1 131 0 ∷ an 0 0 0 0 ∷ an 0 0 85 0 ∷ an 0 1 0 0 ∷ an 0 1 1 1 ∷ an 0 0 3 1 ∷ an 1 0 85 1 ∷ an 2 1 64 0 ∷ [])
+    (an 0 0 143 0 ∷ an 0 1 64 0 ∷ an 0 1 131 0 ∷ an 0 0 0 0 ∷ an 0 0 85 0 ∷ an 0 1 0 0 ∷ an 0 1 1 2 ∷ an 0 0 3 2 ∷ an 1 0 85 2 ∷ an 2 1 64 0 ∷ [])
     (held 0 2 0 0 false false false false false 85 0 0 0 ∷ held 1 1 0 0 false true false true true 0 0 0 0 ∷ [])
     -- mode 2: a read of A raises B's Ready; a mode word on B leaves it
     ∷ row 1 0 1 (ev 3 0 143 ∷ ev 5 0 0 ∷ ev 3 1 207 ∷ ev 3 1 255 ∷ [])
@@ -206,15 +206,15 @@ rows =
     (held 0 1 0 0 false false true true false 0 0 0 0 ∷ held 1 1 0 0 false false true true false 0 0 0 0 ∷ [])
     -- ED after ED closes; an acknowledge forgets an open ED; a write does not
     ∷ row 1 0 1 (ev 3 0 131 ∷ ev 3 1 131 ∷ ev 1 0 0 ∷ ev 6 0 0 ∷ ev 6 0 1 ∷ ev 2 0 0 ∷ ev 6 1 0 ∷ ev 6 1 1 ∷ ev 1 0 237 ∷ ev 1 0 237 ∷ ev 1 0 77 ∷ ev 1 0 237 ∷ ev 2 0 0 ∷ ev 1 0 77 ∷ ev 1 0 237 ∷ ev 4 0 1 ∷ ev 1 0 77 ∷ [])
-    (an 0 0 131 0 ∷ an 0 1 131 0 ∷ an 0 0 0 0 ∷ an 0 0 0 0 ∷ an 0 0 1 1 ∷ an 2 0 0 0 ∷ an 0 1 0 0 ∷ an 0 1 1 0 ∷ an 0 0 237 0 ∷ an 0 0 237 0 ∷ an 0 0 77 0 ∷ an 0 0 237 0 ∷ an 3 0 255 0 ∷ an 0 0 77 0 ∷ an 0 0 237 0 ∷ an 0 0 1 0 ∷ an 0 0 77 1 ∷ [])
+    (an 0 0 131 0 ∷ an 0 1 131 0 ∷ an 0 0 0 0 ∷ an 0 0 0 0 ∷ an 0 0 1 1 ∷ an 2 0 0 0 ∷ an 0 1 0 0 ∷ an 0 1 1 0 ∷ an 0 0 237 0 ∷ an 0 0 237 0 ∷ an 0 0 77 0 ∷ an 0 0 237 0 ∷ an 3 0 255 0 ∷ an 0 0 77 0 ∷ an 0 0 237 0 ∷ an 0 0 1 0 ∷ an 0 0 77 2 ∷ [])
     (held 0 1 0 0 false false false true false 0 0 0 0 ∷ held 1 1 0 0 false false true true false 0 0 0 0 ∷ [])
     -- the fetch that ends a RETI both releases and makes live
     ∷ row 1 0 1 (ev 3 1 131 ∷ ev 1 0 0 ∷ ev 6 1 0 ∷ ev 6 1 1 ∷ ev 2 0 0 ∷ ev 1 0 237 ∷ ev 3 0 131 ∷ ev 6 0 0 ∷ ev 6 0 1 ∷ ev 1 0 77 ∷ [])
-    (an 0 1 131 0 ∷ an 0 0 0 0 ∷ an 0 1 0 0 ∷ an 0 1 1 1 ∷ an 2 1 0 0 ∷ an 0 0 237 0 ∷ an 0 0 131 0 ∷ an 0 0 0 0 ∷ an 0 0 1 0 ∷ an 0 0 77 1 ∷ [])
+    (an 0 1 131 0 ∷ an 0 0 0 0 ∷ an 0 1 0 0 ∷ an 0 1 1 2 ∷ an 2 1 0 0 ∷ an 0 0 237 0 ∷ an 0 0 131 0 ∷ an 0 0 0 0 ∷ an 0 0 1 0 ∷ an 0 0 77 1 ∷ [])
     (held 0 1 0 0 false false true true false 0 0 0 0 ∷ held 1 1 0 0 false false false true false 0 0 0 0 ∷ [])
     -- reset: A was under service, waited again and had Ready high; B had vector 64, mask 0 and output 85. After it a fetch makes A live no
     -- more, B in mode 3 has mask 255 and output 0, and answers with the vector that it kept
     ∷ row 1 0 1 (ev 3 0 131 ∷ ev 1 0 0 ∷ ev 6 0 0 ∷ ev 6 0 1 ∷ ev 2 0 0 ∷ ev 6 0 0 ∷ ev 6 0 1 ∷ ev 3 0 15 ∷ ev 4 0 9 ∷ ev 3 1 64 ∷ ev 3 1 183 ∷ ev 3 1 0 ∷ ev 4 1 85 ∷ ev 0 0 0 ∷ ev 3 1 207 ∷ ev 3 1 240 ∷ ev 3 1 167 ∷ ev 1 0 0 ∷ ev 7 1 255 ∷ ev 3 1 183 ∷ ev 3 1 15 ∷ ev 1 0 0 ∷ ev 2 0 0 ∷ [])
-    (an 0 0 131 0 ∷ an 0 0 0 0 ∷ an 0 0 0 0 ∷ an 0 0 1 1 ∷ an 2 0 0 0 ∷ an 0 0 0 0 ∷ an 0 0 1 0 ∷ an 0 0 15 0 ∷ an 0 0 9 0 ∷ an 0 1 64 0 ∷ an 0 1 183 0 ∷ an 0 1 0 0 ∷ an 0 1 85 0 ∷ an 0 0 0 0 ∷ an 0 1 207 0 ∷ an 0 1 240 0 ∷ an 0 1 167 0 ∷ an 0 0 0 0 ∷ an 0 1 255 0 ∷ an 0 1 183 0 ∷ an 0 1 15 0 ∷ an 0 0 0 1 ∷ an 2 1 64 0 ∷ [])
+    (an 0 0 131 0 ∷ an 0 0 0 0 ∷ an 0 0 0 0 ∷ an 0 0 1 1 ∷ an 2 0 0 0 ∷ an 0 0 0 0 ∷ an 0 0 1 0 ∷ an 0 0 15 0 ∷ an 0 0 9 0 ∷ an 0 1 64 0 ∷ an 0 1 183 0 ∷ an 0 1 0 0 ∷ an 0 1 85 0 ∷ an 0 0 0 0 ∷ an 0 1 207 0 ∷ an 0 1 240 0 ∷ an 0 1 167 0 ∷ an 0 0 0 0 ∷ an 0 1 255 0 ∷ an 0 1 183 0 ∷ an 0 1 15 0 ∷ an 0 0 0 2 ∷ an 2 1 64 0 ∷ [])
     (held 0 1 0 0 false false false false false 0 0 0 0 ∷ held 1 3 240 0 true false false true true 0 0 0 15 ∷ [])
     ∷ []

@@ -18,7 +18,7 @@ use Rattle.board.specs.declared.Board.{Board}
 use Rattle.board.specs.declared.Look.{Look}
 use Rattle.board.specs.declared.Plan.{Plan}
 use Rattle.board.specs.Step.{kindOf, placeOf, valueOf, placeBad, valueBad}
-use Rattle.board.specs.Halves.{lookOf, signalOf, earlyOf, earlyAt, idle, single, fetchAt, fetchPlan, acknowledgePlan, resetPlan, acceptedPlan, planOf, seenPlan, firstOf}
+use Rattle.board.specs.Halves.{lookOf, earlyOf, earlyAt, idle, single, fetchAt, fetchPlan, acknowledgePlan, resetPlan, acceptedPlan, planOf, seenPlan, firstOf}
 
 -- ---- the early refusals
 -- `place / 2 < size` never forms the number of places
@@ -52,14 +52,14 @@ module _ (size kind place value last : ℕ) where
   not-refused h e f = rw (le-ltb 7 kind h, place-test size kind place false e, f)
 
 -- ---- an acknowledge
-module _ (marks : List ℕ) (request k : ℕ) (p : Plan) (e : k ≡ callerOf marks) where
-  pub answered-none : k ≡ 0 → p ≡ idle shut marks 3 0 255 request → p ≡ acknowledgePlan marks request
+module _ (marks : List ℕ) (request : ℕ) (p : Plan) where
+  pub answered-none : request ≡ 0 → p ≡ idle shut marks 3 0 255 request → p ≡ acknowledgePlan marks request
   unfolding acknowledgePlan if_then_else_
-  answered-none z h = rw (← e, z) h
+  answered-none z h = rw (eq-eqb request 0 z) h
 
-  pub answered-some : (k ≡ 0 → ⊥) → p ≡ single shut marks 2 2 (k - 1) 0 request → p ≡ acknowledgePlan marks request
+  pub answered-some : (request ≡ 0 → ⊥) → p ≡ single shut marks 2 2 (request - 1) 0 request → p ≡ acknowledgePlan marks request
   unfolding acknowledgePlan if_then_else_
-  answered-some z h = rw (← e, ne-eqb k 0 z) h
+  answered-some z h = rw (ne-eqb request 0 z) h
 
 -- ---- a fetch
 module _ (d : Decoder) (marks : List ℕ) (due : Bool) (value request : ℕ) (p : Plan) (ends : Bool) (e : ends ≡ retiOf d value) where
@@ -109,7 +109,7 @@ module _ (size : ℕ) (d : Decoder) (marks : List ℕ) (due : Bool) (request : �
 
 -- ---- the first half after a look at the board, sound or not
 module _ (size : ℕ) (d : Decoder) (l : Look) (e : List ℕ) (p : Plan) where
-  pub seen-sound : (r : ℕ) → l .sound ≡ true → r ≡ signalOf (l .marks) → p ≡ planOf size d (l .marks) (l .due) r e → p ≡ seenPlan size d l e
+  pub seen-sound : (r : ℕ) → l .sound ≡ true → r ≡ callerOf (l .marks) → p ≡ planOf size d (l .marks) (l .due) r e → p ≡ seenPlan size d l e
   unfolding seenPlan if_then_else_
   seen-sound r s q h = rw s (rw q at h)
 
@@ -121,10 +121,5 @@ module _ (size : ℕ) (d : Decoder) (l : Look) (e : List ℕ) (p : Plan) where
   unfolding seenPlan if_then_else_
   seen-bad s n h = rw (s, eq-eqb (length e) 4 n) h
 
-module _ (b : Board) (e : List ℕ) where
-  looked : seenPlan (b .size) (b .decoder) (lookOf (b .size) (b .chips)) e ≡ firstOf b e
-  unfolding seenPlan firstOf lookOf
-  looked = refl
-
-  pub seen-first : (l : Look) (p : Plan) → l ≡ lookOf (b .size) (b .chips) → p ≡ seenPlan (b .size) (b .decoder) l e → p ≡ firstOf b e
-  seen-first l p i h = h ∙ ap (λ (x : Look). seenPlan (b .size) (b .decoder) x e) i ∙ looked
+pub seen-first : (b : Board) (e : List ℕ) (l : Look) (p : Plan) → l ≡ lookOf (b .size) (b .chips) → p ≡ seenPlan (b .size) (b .decoder) l e → p ≡ firstOf b e
+seen-first b e l p i h = h ∙ ap (λ (x : Look). seenPlan (b .size) (b .decoder) x e) i

@@ -124,16 +124,15 @@ fn plan_fetch(decoder: Decoder, marks: [u8; 4], due: bool, value: u8, request: u
     plan_sweep(decoder, marks, due, true, k - 1, value, request)
 }
 
-// An interrupt acknowledge: the nearest asking port answers, or nobody.
+// An interrupt acknowledge: the port that the request names answers, or nobody.
 fn plan_acknowledge(marks: [u8; 4], request: u8) -> Plan
     ensures { λ r. ⌜ (r ≡ acknowledgePlan marks request) × (r .chip < 4) ⌝ }
 {
     let shut = Decoder { prefix: 0 };
-    let k = chain::caller(marks);
-    if k == 0 {
+    if request == 0 {
         return plan_nothing(shut, marks, 3, 0, 255, request);
     }
-    plan_place(shut, marks, 2, 2, (k - 1) as u8, 0, request)
+    plan_place(shut, marks, 2, 2, request - 1, 0, request)
 }
 
 // An event that no early refusal stops.
@@ -204,7 +203,7 @@ pub fn step_seen(size: u8, decoder: Decoder, seen: Look, event: &[u8]) -> Plan
 {
     let marks = seen.marks;
     if seen.sound {
-        let request = board::signal(marks);
+        let request = chain::caller(marks);
         return step_reads(size, decoder, marks, seen.due, request, event);
     }
     if event.len() != 4 {

@@ -136,7 +136,7 @@ fn scan(board: Board, seen: Look, events: &[u8], stamps: &[u8], out: &mut [u8]) 
         chips: chips,
         decoder: decoder,
         marks: marks,
-        request: board::signal(marks),
+        request: chain::caller(marks),
         due: seen.due,
     };
     frames::put_header(out);

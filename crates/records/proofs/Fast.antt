@@ -16,11 +16,12 @@ use Rattle.chip.specs.declared.Chip.{Chip}
 use Rattle.chain.specs.declared.Decoder.{Decoder}
 use Rattle.chain.specs.Decode.{nextOf, retiOf}
 use Rattle.buffers.specs.Splice.{splice}
+use Rattle.chain.specs.Marks.{callerOf}
 use Rattle.board.specs.declared.Board.{Board}
 use Rattle.board.specs.declared.Plan.{Plan}
 use Rattle.board.specs.Board.{most, soundBoard}
 use Rattle.board.specs.Step.{kindOf, placeOf, valueOf, lastOf}
-use Rattle.board.specs.Halves.{signalOf, earlyOf, fetchPlan, acceptedPlan, planOf}
+use Rattle.board.specs.Halves.{earlyOf, fetchPlan, acceptedPlan, planOf}
 use Rattle.board.proofs.Quick.{parts}
 use Rattle.board.proofs.Ways.{off}
 use Rattle.steps.proofs.Ways.{set-beyond}
@@ -48,11 +49,11 @@ size-some : (b : Board) → soundBoard b ≡ true → 1 ≤ b .size
 size-some b s = leb-true 1 (b .size) (both (leb 1 (b .size)) (leb (b .size) most) (parts b s .0) .0)
 
 -- ---- the request, where a mark stays as it is
-pub no-chip : (ms : List ℕ) (k m r : ℕ) → length ms ≡ most → most ≤ k → r ≡ signalOf ms → r ≡ signalOf (set ms k m)
-no-chip ms k m r l h e = e ∙ ap signalOf (set-beyond ms k m most l h)
+pub no-chip : (ms : List ℕ) (k m r : ℕ) → length ms ≡ most → most ≤ k → r ≡ callerOf ms → r ≡ callerOf (set ms k m)
+no-chip ms k m r l h e = e ∙ ap callerOf (set-beyond ms k m most l h)
 
-pub same-mark : (ms : List ℕ) (k m r : ℕ) → getD ms k 0 ≡ m → r ≡ signalOf ms → r ≡ signalOf (set ms k m)
-same-mark ms k m r e h = h ∙ ap signalOf (sym (set-getD ms k 0) ∙ ap (set ms k) e)
+pub same-mark : (ms : List ℕ) (k m r : ℕ) → getD ms k 0 ≡ m → r ≡ callerOf ms → r ≡ callerOf (set ms k m)
+same-mark ms k m r e h = h ∙ ap callerOf (sym (set-getD ms k 0) ∙ ap (set ms k) e)
 
 -- ---- a fetch that changes the decoder alone
 pub none-there : (d : Decoder) (due : Bool) (es : List ℕ) (i : ℕ) → length es / 4 ≤ i → false ≡ idlesOf d due es i

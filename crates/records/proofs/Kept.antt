@@ -4,7 +4,7 @@
 use mathlib.Core.Path.{_≡_, refl, sym, ap, ap₂, subst, _∙_}
 use mathlib.Core.Bool.{Bool, true, false, _&&_, _||_, not, false≢true, true≢false}
 use mathlib.Core.List.{List, [], _∷_, map}
-use Prim.Native.Nat.{ℕ, zero, suc, _*_, _/_, _%_, _-_, _<_}
+use Prim.Native.Nat.{ℕ, zero, suc, _+_, _*_, _/_, _%_, _-_, _<_}
 use native.Mathlib.Omega.{arith}
 use lib.Dec.{ltb}
 use lib.ListN.{length, length-map, length-set, getD, set, take}
@@ -27,7 +27,7 @@ use Rattle.board.specs.declared.Changed.{Changed}
 use Rattle.board.specs.declared.Swept.{Swept}
 use Rattle.board.specs.Board.{most, there, ports, soundBoard}
 use Rattle.board.specs.Step.{kindOf, placeOf, valueOf, lastOf, stepOf}
-use Rattle.board.specs.Halves.{stirs, signalOf, earlyAt, fetchPlan, acknowledgePlan, acceptedPlan, planOf, touchedOf, withActed, changedOf, blank, sweepOf, freedOf, sweptOf, wholly, singly, idly, carried}
+use Rattle.board.specs.Halves.{stirs, earlyAt, fetchPlan, acknowledgePlan, acceptedPlan, planOf, touchedOf, withActed, changedOf, blank, sweepOf, freedOf, sweptOf, wholly, singly, idly, carried}
 use Rattle.board.proofs.There.{take-within}
 use Rattle.board.proofs.Quick.{step-sound}
 use Rattle.board.proofs.Tables.{place-there}
@@ -39,7 +39,7 @@ pub record Kept (b : Board) (marks : List ℕ) (request : ℕ) (due : Bool) : Ty
   pub sound : soundBoard b ≡ true
   pub row : length (b .chips) ≡ most
   pub marked : marks ≡ marksOf (b .size) (b .chips)
-  pub asked : request ≡ signalOf marks
+  pub asked : request ≡ callerOf marks
   pub still : due ≡ false → Still (there b)
 
 -- ---- the chip that a plan names is on the board
@@ -48,12 +48,12 @@ unfolding if_then_else_
 by-if P true x y f g = f refl
 by-if P false x y f g = g refl
 
-choice-found : (t : Bool) (k : ℕ) → ((if t then suc k else 0) is 0) ≡ false → t ≡ true
+choice-found : (t : Bool) (k : ℕ) → ((if t then k else 0) is 0) ≡ false → t ≡ true
 unfolding if_then_else_
 choice-found true k e = refl
 choice-found false k e = absurd (true≢false e)
 
-module _ (b : Board) (s : soundBoard b ≡ true) (len : length (b .chips) ≡ most) (due : Bool) (request : ℕ) (e : List ℕ) where
+module _ (b : Board) (s : soundBoard b ≡ true) (len : length (b .chips) ≡ most) (due : Bool) (e : List ℕ) where
   abbrev marks : List ℕ
   marks = marksOf (b .size) (b .chips)
 
@@ -65,28 +65,28 @@ module _ (b : Board) (s : soundBoard b ≡ true) (len : length (b .chips) ≡ mo
 
   holder-fits : (holderOf marks is 0) ≡ false → (holderOf marks - 1) / 2 % most < b .size
   holder-fits z =
-      let t = choice-found (ltb (holder (ports b)) (length (ports b))) (holder (ports b)) (rw (holder-is (b .size) (b .chips)) at z) in
+      let t = choice-found (ltb (holder (ports b)) (length (ports b))) (holder (ports b) + 1) (rw (holder-is (b .size) (b .chips)) at z) in
       chip-fits (holderOf marks - 1) (omega (arith, holder-is (b .size) (b .chips) ∙ if-on _ _ _ t, ltb-true (holder (ports b)) (length (ports b)) t, places b s len))
 
   caller-fits : (callerOf marks is 0) ≡ false → (callerOf marks - 1) / 2 % most < b .size
   caller-fits z =
-      let t = choice-found (asks (ports b)) (asker (ports b)) (rw (caller-is (b .size) (b .chips)) at z) in
+      let t = choice-found (asks (ports b)) (asker (ports b) + 1) (rw (caller-is (b .size) (b .chips)) at z) in
       chip-fits (callerOf marks - 1) (omega (arith, caller-is (b .size) (b .chips) ∙ if-on _ _ _ t, ltb-true (asker (ports b)) (length (ports b)) t, places b s len))
 
   no-one : false ≡ true → {n : ℕ} → n < b .size
   no-one h = absurd (false≢true h)
 
-  fetch-fits : (v : ℕ) → Fits (fetchPlan (b .decoder) marks due v request)
+  fetch-fits : (v : ℕ) → Fits (fetchPlan (b .decoder) marks due v (callerOf marks))
   unfolding fetchPlan
   fetch-fits v =
       by-if Fits (not (retiOf (b .decoder) v)) _ _ (λ t. (refl, λ h. no-one h)) (λ t.
       by-if Fits (holderOf marks is 0) _ _ (λ z. (refl, λ h. no-one h)) (λ z. (refl, λ h. holder-fits z)))
 
-  acknowledge-fits : Fits (acknowledgePlan marks request)
+  acknowledge-fits : Fits (acknowledgePlan marks (callerOf marks))
   unfolding acknowledgePlan
   acknowledge-fits = by-if Fits (callerOf marks is 0) _ _ (λ z. (refl, λ h. no-one h)) (λ z. (refl, λ h. caller-fits z))
 
-  accepted-fits : (kind place v : ℕ) → place < b .size * 2 → Fits (acceptedPlan (b .decoder) marks due request kind place v)
+  accepted-fits : (kind place v : ℕ) → place < b .size * 2 → Fits (acceptedPlan (b .decoder) marks due (callerOf marks) kind place v)
   unfolding acceptedPlan
   accepted-fits kind place v l =
       by-if Fits (kind is 1) _ _ (λ t. fetch-fits v) (λ t.
@@ -97,7 +97,7 @@ module _ (b : Board) (s : soundBoard b ≡ true) (len : length (b .chips) ≡ mo
   turned true n = refl
   turned false n = sym n
 
-  plan-fits : Fits (planOf (b .size) (b .decoder) marks due request e)
+  plan-fits : Fits (planOf (b .size) (b .decoder) marks due (callerOf marks) e)
   unfolding planOf
   plan-fits =
       by-if Fits (not (length e is 4)) _ _ (λ t. (refl, λ h. no-one h)) (λ t.
@@ -142,8 +142,8 @@ neither false y e = (refl, e)
 -- ---- the three ways of a record
 module _ (b : Board) (marks : List ℕ) (request : ℕ) (due : Bool) (k : Kept b marks request due) (e : List ℕ) (byte : ltb (valueOf e) 256 ≡ true)
     (w : Plan) (i : w ≡ planOf (b .size) (b .decoder) marks due request e) where
-  plan-is : w ≡ planOf (b .size) (b .decoder) (marksOf (b .size) (b .chips)) due (signalOf (marksOf (b .size) (b .chips))) e
-  plan-is = i ∙ ap₂ (λ (m : List ℕ) (r : ℕ). planOf (b .size) (b .decoder) m due r e) (k .marked) (k .asked ∙ ap signalOf (k .marked))
+  plan-is : w ≡ planOf (b .size) (b .decoder) (marksOf (b .size) (b .chips)) due (callerOf (marksOf (b .size) (b .chips))) e
+  plan-is = i ∙ ap₂ (λ (m : List ℕ) (r : ℕ). planOf (b .size) (b .decoder) m due r e) (k .marked) (k .asked ∙ ap callerOf (k .marked))
 
   steps : carried b w ≡ stepOf b e
   steps = ap (carried b) plan-is ∙ halves b (k .sound) (k .row) due (k .still) e
@@ -182,7 +182,7 @@ module _ (b : Board) (marks : List ℕ) (request : ℕ) (due : Bool) (k : Kept b
   single-steps r t h = ap (singly b w) h ∙ carried-single b w t ∙ steps
 
   fits : (w .marks ≡ marksOf (b .size) (b .chips)) × (w .one ≡ true → w .chip < b .size)
-  fits = rw plan-is (plan-fits b (k .sound) (k .row) due (signalOf (marksOf (b .size) (b .chips))) e)
+  fits = rw plan-is (plan-fits b (k .sound) (k .row) due e)
 
   acted-keeps : (a : Acted) → w .whole ≡ false → w .one ≡ true → withActed w a ≡ changedOf (getD (b .chips) (w .chip) blank) w
       → Kept (singly b w (withActed w a) .board) (withActed w a .marks) (withActed w a .answer .request) (due || withActed w a .due)

@@ -22,13 +22,13 @@ use Rattle.events.specs.Act.{eventOf, step, actOf}
 use Rattle.events.proofs.Ways.{acted, act-write, act-strobe, act-outside}
 use Rattle.chain.specs.declared.Decoder.{Decoder}
 use Rattle.chain.specs.Chain.{sideOf}
-use Rattle.chain.specs.Marks.{markOf}
+use Rattle.chain.specs.Marks.{markOf, callerOf}
 use Rattle.buffers.specs.Splice.{splice}
 use Rattle.board.specs.declared.Board.{Board}
 use Rattle.board.specs.declared.Plan.{Plan}
 use Rattle.board.specs.Board.{most, there, soundAll, soundBoard}
 use Rattle.board.specs.Step.{kindOf, placeOf, valueOf}
-use Rattle.board.specs.Halves.{stirs, signalOf, earlyOf, earlyAt, single, acceptedPlan, planOf, withActed, changedOf, blank}
+use Rattle.board.specs.Halves.{stirs, earlyOf, earlyAt, single, acceptedPlan, planOf, withActed, changedOf, blank}
 use Rattle.board.proofs.Quick.{parts}
 use Rattle.board.proofs.Tables.{place-there}
 use Rattle.board.proofs.Halves.{size-fits}
@@ -151,7 +151,7 @@ module _ {es old : List ℕ} {start : ℕ} {b₀ : Board} {n : ℕ} {out : List 
       ap (withActed w) (touch-act (chip-at es i (b .chips)) w a (λ m. omega (arith, m, lo)) (λ m. omega (arith, m, lo)) e) ∙ sym (if-on true (withActed w _) _ refl)
 
   pub act-turn : {new : List Chip} {code shown : ℕ} (a : Acts es i (b .chips) new code shown) (m q : ℕ) (y : Bool) (out′ : List ℕ) → m ≡ markOf (chip-at es i new)
-      → (request ≡ signalOf marks → q ≡ signalOf (set marks (k es i) m)) → y ≡ stirs (chip-at es i new)
+      → (request ≡ callerOf marks → q ≡ callerOf (set marks (k es i) m)) → y ≡ stirs (chip-at es i new)
       → out′ ≡ splice out (4 * (start + i)) (code ∷ place es i ∷ shown ∷ q ∷ [])
       → Running es old start b₀ n out′ (record { size = b .size; chips = new; decoder = b .decoder }) (i + 1)
       × Kept (record { size = b .size; chips = new; decoder = b .decoder }) (set marks (k es i) m) q (due || y)
@@ -159,7 +159,7 @@ module _ {es old : List ℕ} {start : ℕ} {b₀ : Board} {n : ℕ} {out : List 
       let d = a .done in
       let e = ap (λ (cs : List Chip). getD cs (k es i) blank) (a .row) ∙ getD-set-same (b .chips) (k es i) (d .chip) blank in-row in
       let v = u ∙ ap markOf e in
-      let s = r (g .kept .asked) ∙ ap (λ (x : ℕ). signalOf (set marks (k es i) x)) v in
+      let s = r (g .kept .asked) ∙ ap (λ (x : ℕ). callerOf (set marks (k es i) x)) v in
       rw (l, e, s, v, a .row)
       (single-turn g w planned (withActed w d) out′ refl refl (changes d (a .event (chip-sound b (k es i) (g .kept .sound) (g .kept .row) fits)))
       (rw (← a .coded, ← a .told, ← s) o))

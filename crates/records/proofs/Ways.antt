@@ -11,6 +11,7 @@ use lib.ListN.{length, take, drop, getD}
 use lib.Seq.{getD-take, getD-drop}
 use borrow.Author.Tests.{lt-ltb}
 use Rattle.buffers.specs.Splice.{splice}
+use Rattle.chain.specs.Marks.{callerOf}
 use Rattle.board.specs.declared.Board.{Board}
 use Rattle.board.specs.declared.Answer.{Answer}
 use Rattle.board.specs.declared.Look.{Look}
@@ -19,7 +20,7 @@ use Rattle.board.specs.declared.Changed.{Changed}
 use Rattle.board.specs.declared.Swept.{Swept}
 use Rattle.board.specs.Board.{most, there, soundBoard}
 use Rattle.board.specs.Step.{valueOf}
-use Rattle.board.specs.Halves.{lookOf, signalOf, planOf, changedOf, blank, sweptOf, wholly, singly, idly}
+use Rattle.board.specs.Halves.{lookOf, planOf, changedOf, blank, sweptOf, wholly, singly, idly}
 use Rattle.board.proofs.Ways.{off, on}
 use Rattle.board.proofs.Steps.{quiet}
 use Rattle.records.specs.Records.{bytesOf}
@@ -27,7 +28,7 @@ use Rattle.records.proofs.Turns.{Running, turn}
 use Rattle.records.proofs.Kept.{Kept, whole-steps, whole-keeps, idle-steps, idle-keeps, single-steps, single-keeps}
 
 -- before the first record
-pub kept-begins : (b : Board) (l : Look) (r : ℕ) → l ≡ lookOf (b .size) (b .chips) → soundBoard b ≡ true → length (b .chips) ≡ most → r ≡ signalOf (l .marks) → Kept b (l .marks) r (l .due)
+pub kept-begins : (b : Board) (l : Look) (r : ℕ) → l ≡ lookOf (b .size) (b .chips) → soundBoard b ≡ true → length (b .chips) ≡ most → r ≡ callerOf (l .marks) → Kept b (l .marks) r (l .due)
 unfolding lookOf
 kept-begins b l r i s n q =
     record {

@@ -7,8 +7,9 @@ ghost use mathlib.Core.Bool.{true};
 ghost use Prim.Native.Nat.{_+_, _*_, _/_, _%_, _≤_};
 ghost use lib.ListN.{length, set};
 ghost use Rattle.buffers.specs.Splice.{splice};
+ghost use Rattle.chain.specs.Marks.{callerOf};
 ghost use Rattle.board.specs.Board.{soundBoard};
-ghost use Rattle.board.specs.Halves.{lookOf, signalOf};
+ghost use Rattle.board.specs.Halves.{lookOf};
 ghost use Rattle.records.specs.Records.{records, stepsOf, answersOf};
 ghost use Rattle.records.specs.Fast.{idlesOf};
 
@@ -26,7 +27,7 @@ fn idles(events: &[u8], i: usize, decoder: Decoder, due: bool) -> bool
 
 // The request after the chip `k` has the mark `mark`.
 fn renewed(marks: [u8; 4], k: usize, mark: u8, request: u8) -> u8
-    ensures { λ r. ⌜ (request ≡ signalOf marks → r ≡ signalOf (set marks k mark)) ⌝ }
+    ensures { λ r. ⌜ (request ≡ callerOf marks → r ≡ callerOf (set marks k mark)) ⌝ }
 {
     if k >= 4 {
         return request;
@@ -36,7 +37,7 @@ fn renewed(marks: [u8; 4], k: usize, mark: u8, request: u8) -> u8
     }
     let mut next = marks;
     next[k] = mark;
-    board::signal(next)
+    chain::caller(next)
 }
 
 // All the records, on a sound board with room for their answers; `seen` is a look at the board.
@@ -58,7 +59,7 @@ pub fn run_records(
     let mut chips = board.chips;
     let mut decoder = board.decoder;
     let mut marks = seen.marks;
-    let mut request = board::signal(marks);
+    let mut request = chain::caller(marks);
     let mut due = seen.due;
     let mut i: usize = 0;
     while i < n {

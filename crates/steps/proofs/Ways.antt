@@ -16,13 +16,13 @@ use Rattle.chip.specs.Chip.{side, port, serve, release, settle}
 use Rattle.chip.specs.Chip as chip
 use Rattle.events.specs.declared.Acted.{Acted}
 use Rattle.events.specs.Act.{eventOf, actOf}
-use Rattle.chain.specs.Marks.{markOf, marksOf}
+use Rattle.chain.specs.Marks.{markOf, marksOf, callerOf}
 use Rattle.board.specs.declared.Plan.{Plan}
 use Rattle.board.specs.declared.Changed.{Changed}
 use Rattle.board.specs.declared.Swept.{Swept}
 use Rattle.board.specs.Board.{within}
 use Rattle.board.specs.Step.{answer}
-use Rattle.board.specs.Halves.{stirs, signalOf, touchedOf, withActed, changedOf, blank, sweepOf, freedOf, withSwept, sweptOf}
+use Rattle.board.specs.Halves.{stirs, touchedOf, withActed, changedOf, blank, sweepOf, freedOf, withSwept, sweptOf}
 use Rattle.board.proofs.Ways.{off, on}
 
 -- beyond the end nothing is set
@@ -63,12 +63,12 @@ chip-stays c w s e h = ap (λ (x : Bool). after c (w .marks) x (w .code) (w .pla
 
 pub chip-changes :
     (c : Chip) (w : Plan) (r : Acted) (s : Bool) (m q : ℕ) (ms : List ℕ) → not (w .one) ≡ false → r ≡ touchedOf c w → m ≡ markOf (r .chip)
-    → ms ≡ set (w .marks) (w .chip) m → s ≡ stirs (r .chip) → q ≡ signalOf ms → after (r .chip) ms s (r .code) (w .place) (r .value) q ≡ changedOf c w
+    → ms ≡ set (w .marks) (w .chip) m → s ≡ stirs (r .chip) → q ≡ callerOf ms → after (r .chip) ms s (r .code) (w .place) (r .value) q ≡ changedOf c w
 unfolding changedOf
 chip-changes c w r s m q ms e i j k l n =
     ap (λ (x : ℕ). after (r .chip) ms s (r .code) (w .place) (r .value) x) n
-    ∙ ap (λ (x : Bool). after (r .chip) ms x (r .code) (w .place) (r .value) (signalOf ms)) l
-    ∙ ap (λ (x : List ℕ). after (r .chip) x (stirs (r .chip)) (r .code) (w .place) (r .value) (signalOf x)) (k ∙ ap (set (w .marks) (w .chip)) j)
+    ∙ ap (λ (x : Bool). after (r .chip) ms x (r .code) (w .place) (r .value) (callerOf ms)) l
+    ∙ ap (λ (x : List ℕ). after (r .chip) x (stirs (r .chip)) (r .code) (w .place) (r .value) (callerOf x)) (k ∙ ap (set (w .marks) (w .chip)) j)
     ∙ ap (withActed w) i ∙ sym (if-on (w .one) _ _ (on (w .one) e))
 
 -- ---- every chip
@@ -89,10 +89,10 @@ free-one cs w d e h = ap (set cs (w .chip)) h ∙ sym (if-on (w .one) _ _ (on (w
 
 pub swept-is :
     (n q : ℕ) (old cs next : List Chip) (ms : List ℕ) (w : Plan) → old ≡ freedOf cs w
-    → (next ≡ within n (map (sweepOf (w .kind))) old) × (ms ≡ marksOf n (within n (map (sweepOf (w .kind))) old)) → q ≡ signalOf ms
+    → (next ≡ within n (map (sweepOf (w .kind))) old) × (ms ≡ marksOf n (within n (map (sweepOf (w .kind))) old)) → q ≡ callerOf ms
     → _≡_ {A = Swept} (record { chips = next; marks = ms; answer = answer 0 0 (w .value) q }) (sweptOf n cs w)
 unfolding sweptOf
 swept-is n q old cs next ms w e h s =
     ap (λ (x : ℕ). record { chips = next; marks = ms; answer = answer 0 0 (w .value) x }) s
-    ∙ ap (λ (x : List ℕ). record { chips = next; marks = x; answer = answer 0 0 (w .value) (signalOf x) }) (h .1 ∙ ap (marksOf n) (sym (h .0)))
+    ∙ ap (λ (x : List ℕ). record { chips = next; marks = x; answer = answer 0 0 (w .value) (callerOf x) }) (h .1 ∙ ap (marksOf n) (sym (h .0)))
     ∙ ap (λ (x : List Chip). withSwept n x w) (h .0 ∙ ap (within n (map (sweepOf (w .kind)))) e)

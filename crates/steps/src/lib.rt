@@ -77,7 +77,7 @@ pub fn step_chip(c: Chip, w: Plan) -> Changed
             code: r.code,
             place: w.place,
             value: r.value,
-            request: board::signal(marks),
+            request: chain::caller(marks),
         },
     }
 }
@@ -133,7 +133,7 @@ pub fn step_chips(size: u8, chips: [Chip; 4], w: Plan) -> Swept
             code: 0,
             place: 0,
             value: w.value,
-            request: board::signal(marks),
+            request: chain::caller(marks),
         },
     }
 }

@@ -18,16 +18,16 @@ loop-holds : tie.Need-loop-holds Inv-loop μ-loop
 loop-holds c = (begins callerOf _, search needs)
 
 returns : tie.Need-returns Inv-loop μ-loop
-returns c = (search (needs, caller-shut), search needs)
+returns c = search (needs, caller-shut)
 
 returns-2 : tie.Need-returns-2 Inv-loop μ-loop
-returns-2 c = (search (needs, caller-here), omega arith)
+returns-2 c = search (needs, caller-here)
 
 loop-again : tie.Need-loop-again Inv-loop μ-loop
 loop-again c = (search (needs, caller-past), omega arith)
 
 returns-3 : tie.Need-returns-3 Inv-loop μ-loop
-returns-3 c = (caller-ends (c .before .before .args .t1) (c .before .loop .i) (c .before .loop .inv .0) (search needs), search needs)
+returns-3 c = caller-ends (c .before .before .args .t1) (c .before .loop .i) (c .before .loop .inv .0) (search needs)
 
 pub caller-spec : {M : Type 1} → statement M
 caller-spec =

@@ -22,7 +22,7 @@ loop-holds : tie.Need-loop-holds Inv-loop μ-loop
 loop-holds c =
     let start = c .before .before .before .before .before .before .before .before .before .before .before in
     let given = start .pre .0 in
-    begin _ _ _ _ _ _ refl (kept-begins (start .args .board) (start .args .seen) _ (given .0) (given .1 .0) (given .1 .1) (c .before .before .before .before .signal .ensures))
+    begin _ _ _ _ _ _ refl (kept-begins (start .args .board) (start .args .seen) _ (given .0) (given .1 .0) (given .1 .1) (c .before .before .before .before .caller .ensures))
 
 loop-again : tie.Need-loop-again Inv-loop μ-loop
 loop-again c =

@@ -37,7 +37,7 @@ loop-holds : tie.Need-loop-holds Inv-loop2 μ-loop2 Inv-loop μ-loop
 loop-holds c =
     let entry = c .before .before .before .before .before .before in
     let given = entry .pre .0 in
-    (begin _ _ _ _ _, kept-begins (entry .args .board) (entry .args .seen) _ (given .0) (given .1 .0) (given .1 .1) (c .signal .ensures))
+    (begin _ _ _ _ _, kept-begins (entry .args .board) (entry .args .seen) _ (given .0) (given .1 .0) (given .1 .1) (c .caller .ensures))
 
 -- ---- what is known before a record
 module _ (c : tie.At-loop2 Inv-loop2 μ-loop2 Inv-loop μ-loop) where

@@ -29,7 +29,7 @@ loop-again c =
 returns : tie.Need-returns Inv-loop μ-loop
 returns c =
     swept-is _ _ _ _ _ _ _ (c .before .before .before .freed .ensures)
-    (sweep-ends _ _ _ 4 (c .before .before .loop .inv .0) (search needs) (c .before .loop-test .left)) (c .signal .ensures)
+    (sweep-ends _ _ _ 4 (c .before .before .loop .inv .0) (search needs) (c .before .loop-test .left)) (c .caller .ensures)
 
 pub step-chips-spec : {M : Type 1} → statement M
 step-chips-spec =
