@@ -119,11 +119,11 @@ def check_case(export, size, room, events, stamps, before, code, text):
 
 
 def values_after(panel, recording):
-    """The nine values after each record: the request, and Ready of each place that is on the board."""
+    """The nine values after each record: whether a place asks, and Ready of each place that is on the board."""
     records = [recording.events[at:at + 4] for at in range(0, len(recording.events), 4)]
     for answer, states in cases.panel(panel, recording.size, records):
         ready = [states[place]["ready"] if place in states else 0 for place in range(8)]
-        yield [int(answer.split(",")[3])] + ready
+        yield [int(answer.split(",")[3] != "0")] + ready
 
 
 def wanted_text(panel, recording):

@@ -98,10 +98,11 @@ impl Board {
         None
     }
 
-    /// The fourth byte of an answer.
+    /// The fourth byte of an answer (document 02, ask 2): who is asking. 0 is nobody, otherwise it is the
+    /// nearest asking place + 1.
     pub fn request(&self) -> u8 {
         match self.asking() {
-            Some(_) => 1,
+            Some(place) => place as u8 + 1,
             None => 0,
         }
     }

@@ -328,7 +328,7 @@ impl Generator {
 
     /// The CPU answers a request; now and then it does so where there is none.
     fn answer_request(&mut self, board: &Board) {
-        if board.request() == 1 || self.random.percent(30) {
+        if board.asking().is_some() || self.random.percent(30) {
             self.send(ACKNOWLEDGE, 0, 0);
             if self.random.percent(30) {
                 self.send(FETCH, 0, 0xED);

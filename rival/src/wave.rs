@@ -21,7 +21,7 @@ pub fn longest(records: usize) -> usize {
 /// How many microseconds the counter takes to come round.
 const ROUND: i32 = 65_536;
 
-/// The lines of the text: the request, then Ready of the first eight places.
+/// The lines of the text: whether a place asks, then Ready of the first eight places.
 const READIES: usize = 8;
 const LINES: usize = 1 + READIES;
 

@@ -27,18 +27,22 @@ fn same_seed_same_session() {
 #[test]
 fn sessions_reach_what_they_should() {
     let mut codes = BTreeSet::new();
+    let mut requests = BTreeSet::new();
     let mut beside_mode_2 = BTreeSet::new();
     let mut nesting = 0;
     let mut releases = 0;
     let mut matches = 0;
     let mut refused = 0;
+    let mut farther = 0;
     for seed in 0..200 {
         let mut board = fresh(1 + seed as usize % 4).1;
         for event in session(seed, 1 + seed as usize % 4, 400) {
             let before = board;
             let answer = step(&mut board, &event);
             codes.insert(answer[0]);
+            requests.insert(answer[3]);
             refused += usize::from(answer[0] >= 16);
+            farther += usize::from(answer[0] >= 16 && answer[3] > 1);
             let services = board.ports.iter().filter(|port| port.service).count();
             nesting = nesting.max(services);
             for place in 0..board.places() {
@@ -53,6 +57,7 @@ fn sessions_reach_what_they_should() {
         }
     }
     assert_eq!(codes, BTreeSet::from([0, 1, 2, 3, 16, 17, 18, 19, 20]));
+    assert_eq!(requests, (0..=8).collect());
     assert_eq!(beside_mode_2, BTreeSet::from([0, 1, 3]));
     assert!(nesting >= 5, "at most {nesting} services at one time");
     assert!(releases > 800, "{releases} releases by RETI");
@@ -60,6 +65,10 @@ fn sessions_reach_what_they_should() {
     assert!(
         (1600..4800).contains(&refused),
         "{refused} refused of 80000"
+    );
+    assert!(
+        farther > 400,
+        "{farther} refused while a farther place asks"
     );
 }
 

@@ -102,7 +102,9 @@ static void programmed_board(void) {
     does(&b, PIO_WRITE, 3, 0x0C, PIO_DONE, 0x030C00);
     EXPECT(b.chips[1].b.asked && !b.chips[1].b.live);
     does(&b, PIO_FETCH, 0, 0, PIO_DONE, 0x000000);
-    does(&b, PIO_LINES, 3, 0x10, PIO_DONE, 0x031001);
+    /* The request names place 3 by one more than its number, in a refusal too. */
+    does(&b, PIO_LINES, 3, 0x10, PIO_DONE, 0x031004);
+    does(&b, PIO_CONTROL, 1, 0x8F, PIO_BAD_MODE, 0x018F04);
     struct pio_port bits = {.mode = 3, .out = 0x0C, .lines = 0x10, .strobe = true, .vector = 0x42, .select = 0xF0,
                             .mask = 0xEF, .high = true, .asked = true, .live = true, .waiting = true, .matched = true};
     EXPECT(same(b.chips[1].b, bits));

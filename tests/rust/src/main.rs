@@ -73,13 +73,15 @@ fn programmed_board() {
     }
     assert_eq!(does(&mut board, 4, 3, 0x0C), [0, 3, 0x0C, 0]);
     assert_eq!(does(&mut board, 1, 0, 0), [0, 0, 0, 0]);
-    assert_eq!(does(&mut board, 7, 3, 0x10), [0, 3, 0x10, 1]);
+    // From here on the request names place 3 by one more than its number, in a refusal too.
+    assert_eq!(does(&mut board, 7, 3, 0x10), [0, 3, 0x10, 4]);
+    assert_eq!(does(&mut board, 3, 1, 0x8F), [20, 1, 0x8F, 4]);
     for value in [0x8F, 0x47] {
-        assert_eq!(does(&mut board, 3, 4, value), [0, 4, value, 1]);
+        assert_eq!(does(&mut board, 3, 4, value), [0, 4, value, 4]);
     }
-    assert_eq!(does(&mut board, 7, 4, 0x77), [0, 4, 0x77, 1]);
-    assert_eq!(does(&mut board, 6, 5, 0), [0, 5, 0, 1]);
-    assert_eq!(does(&mut board, 1, 0, 0xED), [0, 0, 0xED, 1]);
+    assert_eq!(does(&mut board, 7, 4, 0x77), [0, 4, 0x77, 4]);
+    assert_eq!(does(&mut board, 6, 5, 0), [0, 5, 0, 4]);
+    assert_eq!(does(&mut board, 1, 0, 0xED), [0, 0, 0xED, 4]);
 
     let mut expected = fresh_board(4);
     expected.chips[1].b = Port {
