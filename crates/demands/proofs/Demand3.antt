@@ -47,7 +47,7 @@ whole-place b h =
     let s = both (leb 1 (b .size)) (leb (b .size) most) (parts b h .0) in
     lt-ltb 0 (b .size * 2) (omega (arith, leb-true 1 (b .size) (s .0)))
 
-acknowledge-accepted : (b : Board) → soundBoard b ≡ true → stepOf b acknowledge ≡ accepted b acknowledge
+pub acknowledge-accepted : (b : Board) → soundBoard b ≡ true → stepOf b acknowledge ≡ accepted b acknowledge
 unfolding refusal
 acknowledge-accepted b h = step-accepted b acknowledge refl (rw (h, whole-place b h))
 
@@ -62,7 +62,7 @@ ports-acknowledged b h =
     ap flat (there-taken b step.acknowledge ∙ after-quick (b .decoder) step.acknowledge (there b) (parts b h .1))
     ∙ flat-at served (asker (ports b)) (there b)
 
-turn-is : (b : Board) → turn (length (ports b)) b (found b) ≡ asks (ports b)
+pub turn-is : (b : Board) → turn (length (ports b)) b (found b) ≡ asks (ports b)
 turn-is b = sym (asks-is (ports b) ∙ nearer-first (nearest b) (map under (ports b)) ∙ rw length-map)
 
 served-is : (b : Board) → adjust served (asker (ports b)) (ports b) ≡ (if asks (ports b) then adjust served (nearest b) (ports b) else ports b)
@@ -74,7 +74,7 @@ unfolding if_then_else_ bytesOf
 answer-is b = byCases (asks (ports b)) (λ e. rw (e, asks-yes (ports b) e .0)) (λ e. rw e)
 
 module _ (b : Board) (h : soundBoard b ≡ true) where
-  no-request : requestOf (taken b step.acknowledge) ≡ 0
+  pub no-request : requestOf (taken b step.acknowledge) ≡ 0
   unfolding requestOf if_then_else_
   no-request = rw (ports-acknowledged b h, quiet (ports b))
 
@@ -108,7 +108,7 @@ unfolding stepsOf
 steps-length b [] = refl
 steps-length b (e ∷ es) = steps-length (stepOf b e .board) es ∙ step-length b e
 
-value-byte : (e : List ℕ) → bytes e ≡ true → ltb (valueOf e) 256 ≡ true
+pub value-byte : (e : List ℕ) → bytes e ≡ true → ltb (valueOf e) 256 ≡ true
 value-byte [] h = refl
 value-byte (a ∷ []) h = refl
 value-byte (a ∷ b ∷ []) h = refl

@@ -2,3 +2,4 @@ pub mod Sessions
 pub mod Observer
 pub mod Words
 pub mod Demands
+pub mod Asks

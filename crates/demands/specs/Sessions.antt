@@ -1,5 +1,5 @@
 -- Demand 2's sessions: those of document 01 marked P, its listing, the errors that people make, worked examples of the chip's papers,
--- mode 2, and the other rules of document 01. One row each: the size asked for, the code and the size of the board made, the events,
+-- mode 2, the other rules of document 01, and who is asking. One row each: the size asked for, the code and the size of the board made, the events,
 -- their answers, and what places hold at the end. `given` works a row out by the product's definitions.
 -- Assumes nothing.
 use Prim.Native.Nat.{ℕ}
@@ -217,4 +217,12 @@ rows =
     ∷ row 1 0 1 (ev 3 0 131 ∷ ev 1 0 0 ∷ ev 6 0 0 ∷ ev 6 0 1 ∷ ev 2 0 0 ∷ ev 6 0 0 ∷ ev 6 0 1 ∷ ev 3 0 15 ∷ ev 4 0 9 ∷ ev 3 1 64 ∷ ev 3 1 183 ∷ ev 3 1 0 ∷ ev 4 1 85 ∷ ev 0 0 0 ∷ ev 3 1 207 ∷ ev 3 1 240 ∷ ev 3 1 167 ∷ ev 1 0 0 ∷ ev 7 1 255 ∷ ev 3 1 183 ∷ ev 3 1 15 ∷ ev 1 0 0 ∷ ev 2 0 0 ∷ [])
     (an 0 0 131 0 ∷ an 0 0 0 0 ∷ an 0 0 0 0 ∷ an 0 0 1 1 ∷ an 2 0 0 0 ∷ an 0 0 0 0 ∷ an 0 0 1 0 ∷ an 0 0 15 0 ∷ an 0 0 9 0 ∷ an 0 1 64 0 ∷ an 0 1 183 0 ∷ an 0 1 0 0 ∷ an 0 1 85 0 ∷ an 0 0 0 0 ∷ an 0 1 207 0 ∷ an 0 1 240 0 ∷ an 0 1 167 0 ∷ an 0 0 0 0 ∷ an 0 1 255 0 ∷ an 0 1 183 0 ∷ an 0 1 15 0 ∷ an 0 0 0 2 ∷ an 2 1 64 0 ∷ [])
     (held 0 1 0 0 false false false false false 0 0 0 0 ∷ held 1 3 240 0 true false false true true 0 0 0 15 ∷ [])
+    -- document 02, Ask 2: two places ask and the nearer is named; when it is under service nobody is, and after its RETI the farther one
+    ∷ row 4 0 4 (ev 3 5 131 ∷ ev 3 6 131 ∷ ev 1 0 0 ∷ ev 6 6 0 ∷ ev 6 6 1 ∷ ev 6 5 0 ∷ ev 6 5 1 ∷ ev 2 0 0 ∷ ev 1 0 237 ∷ ev 1 0 77 ∷ [])
+    (an 0 5 131 0 ∷ an 0 6 131 0 ∷ an 0 0 0 0 ∷ an 0 6 0 0 ∷ an 0 6 1 7 ∷ an 0 5 0 7 ∷ an 0 5 1 6 ∷ an 2 5 0 0 ∷ an 0 0 237 0 ∷ an 0 0 77 7 ∷ [])
+    (held 5 1 0 0 false false false true false 0 0 0 0 ∷ held 6 1 0 0 false false true true false 0 0 0 0 ∷ [])
+    -- the refusals of a sound board name the asking place too, and 32 does not; a reset leaves nobody asking
+    ∷ row 2 0 2 (ev 3 3 131 ∷ ev 1 0 0 ∷ ev 6 3 0 ∷ ev 6 3 1 ∷ ev 3 3 143 ∷ ev 3 3 9 ∷ ev 6 0 2 ∷ ev 7 4 0 ∷ ev 8 0 0 ∷ (1 ∷ 0 ∷ 0 ∷ []) ∷ ev 0 0 0 ∷ [])
+    (an 0 3 131 0 ∷ an 0 0 0 0 ∷ an 0 3 0 0 ∷ an 0 3 1 4 ∷ an 20 3 143 4 ∷ an 19 3 9 4 ∷ an 18 0 2 4 ∷ an 17 4 0 4 ∷ an 16 0 0 4 ∷ an 32 0 0 0 ∷ an 0 0 0 0 ∷ [])
+    (held 3 1 0 0 false false false false false 0 0 0 0 ∷ [])
     ∷ []

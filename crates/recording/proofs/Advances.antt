@@ -11,7 +11,7 @@ use Rattle.bits.specs.Bits.{if_then_else_, _is_}
 use Rattle.bits.proofs.Logic.{byCases}
 use Rattle.bits.proofs.Tests.{if-on, if-off}
 use Rattle.chain.specs.Decode.{retiOf}
-use Rattle.chain.specs.Marks.{callerOf, holderOf}
+use Rattle.chain.specs.Marks.{holderOf}
 use Rattle.chain.specs.declared.Decoder.{Decoder}
 use Rattle.board.specs.declared.Board.{Board}
 use Rattle.board.specs.declared.Stepped.{Stepped}
@@ -40,7 +40,7 @@ plan-request size d marks due request e four =
     ∙ by-if P (not (earlyAt size e is 0)) _ _ refl
     (by-if P (kindOf e is 1) _ _ (by-if P (not (retiOf d (valueOf e))) _ _ refl (by-if P (holderOf marks is 0) _ _ refl refl))
     (by-if P (kindOf e is 0) _ _ refl
-    (by-if P (kindOf e is 2) _ _ (by-if P (callerOf marks is 0) _ _ refl refl) refl)))
+    (by-if P (kindOf e is 2) _ _ (by-if P (request is 0) _ _ refl refl) refl)))
 
 -- ---- the three ways of a record
 module _ (size : ℕ) (s : Stand) (k : Kept (boardOf size s) (s .marks) (s .request) (s .due)) (e : List ℕ) (byte : ltb (valueOf e) 256 ≡ true) (four : length e ≡ 4) where
