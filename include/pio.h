@@ -6,7 +6,8 @@
  *
  * Place = 2 * chip + (0 for port A, 1 for port B); chip 0 is the nearest to the CPU, and a lower place goes before a
  * higher one. An event is four bytes: kind, place, value, 0. Its answer is four bytes: code, place, value, and the
- * request, which is 1 if the board asks the CPU for an interrupt after the event and 0 if not.
+ * request, which tells who asks the CPU for an interrupt after the event: 0 is nobody, and otherwise it is the nearest
+ * asking place + 1, the place that would answer an acknowledge.
  *
  * Numbers come as size_t and every value of one is answered: a size of 257 is refused like a size of 5, a place of 256
  * like a place of 8. Nothing has to be checked before a call but what C itself cannot say:
@@ -111,7 +112,7 @@ uint8_t pio_fresh(struct pio_board *board, size_t size);
  * written and the board stays as it was. All other refusals are written as answers too, and leave the board as it was.
  * In this order: PIO_BAD_LENGTH (place, value and request 0), PIO_UNSOUND (request 0), PIO_BAD_KIND, PIO_BAD_PLACE,
  * PIO_BAD_VALUE, PIO_BAD_WORD, PIO_BAD_MODE; all but the first give the event's place and value, and those after
- * PIO_UNSOUND the request as it stands.
+ * PIO_UNSOUND the request of the board as it stands.
  */
 uint8_t pio_step(struct pio_board *board, const uint8_t *event, size_t event_length, uint8_t *answer,
                  size_t answer_length);
@@ -142,9 +143,9 @@ uint8_t pio_lines(const struct pio_board *board, size_t place, uint8_t *lines, s
 
 /*
  * Does many events as pio_run does, and writes what a wave viewer shows of them as a Value Change Dump: after each
- * moment the request (`int`) and the Ready of the eight places (`rdy0` to `rdy7`; 0 for a place that is not on the
- * board). `stamps` holds two bytes for each record, low byte first: a counter of microseconds that goes from 65,535 to
- * 0. Time is 0 at the first record and grows by the counter's difference, so neighbours are less than 65,536 apart.
+ * moment whether a place asks (`int`, 1 when the request is not 0) and the Ready of the eight places (`rdy0` to `rdy7`;
+ * 0 for a place that is not on the board). `stamps` holds two bytes for each record, low byte first: a counter of
+ * microseconds that goes from 65,535 to 0. Time is 0 at the first record and grows by the counter's difference, so neighbours are less than 65,536 apart.
  * Records at one time are shown as one, by the values after the last of them, and a time without a change is not
  * shown; no records at all give the header alone, 257 bytes. The text goes to the start of `text`, without a 0 byte at
  * its end; bytes beyond it stay. Returns PIO_DONE, with the text's length in *written; PIO_WAVE_ROOM says how long it

@@ -15,6 +15,7 @@ pub struct Board {
     pub decoder: Decoder,
 }
 
+// `request` tells who asks for an interrupt after the event: the nearest asking place and 1, or 0 for nobody.
 #[repr(C)]
 pub struct Answer {
     pub code: u8,

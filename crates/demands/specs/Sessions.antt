@@ -1,6 +1,6 @@
 -- Demand 2's sessions: those of document 01 marked P, its listing, the errors that people make, worked examples of the chip's papers,
--- mode 2, the other rules of document 01, and who is asking. One row each: the size asked for, the code and the size of the board made, the events,
--- their answers, and what places hold at the end. `given` works a row out by the product's definitions.
+-- mode 2, the other rules of document 01, and who is asking. One row each: the size asked for, the code and the size of the board made,
+-- the events, their answers, and what places hold at the end. `given` works a row out by the product's definitions.
 -- Assumes nothing.
 use Prim.Native.Nat.{ℕ}
 use mathlib.Core.Bool.{Bool, true, false}
