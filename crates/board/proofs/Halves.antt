@@ -6,7 +6,7 @@ use mathlib.Core.List.{List, [], _∷_, _++_, map}
 use Prim.Native.Nat.{ℕ, _+_, _*_, _/_, _%_, _-_, _≤_, _<_}
 use native.Mathlib.Omega.{arith}
 use lib.Dec.{ltb, leb}
-use lib.ListN.{length, length-take, getD, set, take, drop, take-append-drop}
+use lib.ListN.{length, length-take, getD, set, drop, take-append-drop}
 use lib.Seq.{set-getD, getD-take}
 use borrow.Author.Tests.{ne-eqb, eqb-true, ltb-true, leb-true}
 use Rattle.bits.specs.Bits.{if_then_else_, _is_}
@@ -16,15 +16,15 @@ use Rattle.port.specs.Rules.{served, released}
 use Rattle.words.specs.Words.{codeOf}
 use Rattle.words.specs.declared.Heard.{Heard}
 use Rattle.chip.specs.declared.Chip.{Chip}
-use Rattle.chip.specs.Chip.{A, side, port, on}
+use Rattle.chip.specs.Chip.{side, port, on}
 use Rattle.chip.specs.Chip as chip
 use Rattle.events.specs.Events.{heard, Event, control, write, read, strobe, outside}
 use Rattle.events.specs.Act.{eventOf, stepWord, step, codeAt, valueAt, actOf}
 use Rattle.chain.specs.declared.Decoder.{Decoder}
 use Rattle.chain.specs.Places.{adjust}
-use Rattle.chain.specs.Chain.{asker, asks, holder, flat, sideOf, acknowledged, retired}
+use Rattle.chain.specs.Chain.{most, asker, asks, holder, sideOf, acknowledged, retired}
 use Rattle.chain.specs.Decode.{shut, retiOf}
-use Rattle.chain.specs.Marks.{markOf, marksOf, callerOf}
+use Rattle.chain.specs.Marks.{Marks, markedOf, marksOf, callerOf}
 use Rattle.chain.proofs.Places.{adjust-length}
 use Rattle.chain.proofs.Flat.{flat-length}
 use Rattle.chain.proofs.Marks.{caller-is, holder-is, marks-set}
@@ -32,7 +32,7 @@ use Rattle.board.specs.declared.Board.{Board}
 use Rattle.board.specs.declared.Answer.{Answer}
 use Rattle.board.specs.declared.Stepped.{Stepped}
 use Rattle.board.specs.declared.Plan.{Plan}
-use Rattle.board.specs.Board.{most, there, ports, portAt, within, soundBoard, requestOf}
+use Rattle.board.specs.Board.{there, ports, portAt, within, soundBoard, requestOf}
 use Rattle.board.specs.Step.{kindOf, placeOf, valueOf, lastOf, line, verdict, wordCode, refusal, Doing, reset, fetch, acknowledge, at, doingOf, taken, answer, answered, accepted, refused, stepOf}
 use Rattle.board.specs.Halves.{earlyAt, idle, single, fetchAt, fetchPlan, acknowledgePlan, resetPlan, acceptedPlan, planOf, touchedOf, changedOf, blank, sweptOf, carried}
 use Rattle.board.proofs.Tables.{wordLines, refusal-is, place-there, byHeard, plain, event-plain, event-control}
@@ -92,9 +92,9 @@ module _ (b : Board) (s : soundBoard b ≡ true) (len : length (b .chips) ≡ mo
   -- one chip stored, and its mark
   settles-one : (g : Doing) (v i : ℕ) (c : Chip) (f : ℕ → Answer) → i < b .size → ((r : ℕ) → f r ≡ answered b g v r)
       → set (b .chips) i c ≡ quick (b .decoder) g (there b) ++ drop (b .size) (b .chips)
-      → held b (set (b .chips) i c) (taken b g .decoder) (f (callerOf (set (marksOf (b .size) (b .chips)) i (markOf c)))) ≡ result b g v
+      → held b (set (b .chips) i c) (taken b g .decoder) (f (callerOf (markedOf (marksOf (b .size) (b .chips)) i c))) ≡ result b g v
   settles-one g v i c f h p e =
-      ap (λ (ms : List ℕ). held b (set (b .chips) i c) (taken b g .decoder) (f (callerOf ms))) (sym (marks-set (b .size) (b .chips) i c h))
+      ap (λ (ms : Marks). held b (set (b .chips) i c) (taken b g .decoder) (f (callerOf ms))) (sym (marks-set (b .size) (b .chips) i c h))
       ∙ settles g v (set (b .chips) i c) f p e
 
   stays : (x : List Chip) → x ≡ there b → b .chips ≡ x ++ drop (b .size) (b .chips)
@@ -200,13 +200,13 @@ module _ (b : Board) (s : soundBoard b ≡ true) (len : length (b .chips) ≡ mo
   unfolding carried changedOf touchedOf actOf step if_then_else_
   does-nothing kind place v code f g t h c w =
       rw (f, g, event-control kind v t, index place h, w, c)
-      (ap (λ (ms : List ℕ). held b (set (b .chips) (place / 2) (chipAt place)) (b .decoder) (answer code place v (callerOf ms))) (sym (marks-set (b .size) (b .chips) (place / 2) (chipAt place) (omega arith)))
+      (ap (λ (ms : Marks). held b (set (b .chips) (place / 2) (chipAt place)) (b .decoder) (answer code place v (callerOf ms))) (sym (marks-set (b .size) (b .chips) (place / 2) (chipAt place) (omega arith)))
       ∙ ap (λ (x : List Chip). held b x (b .decoder) (answer code place v (callerOf (marksOf (b .size) x)))) (set-getD (b .chips) (place / 2) blank)
       ∙ ap (λ (r : ℕ). record { board = b; answer = answer code place v r }) (request-is (b .size) (b .chips) (b .decoder)))
 
   -- ---- the event's four bytes
   module _ (due : Bool) (right : due ≡ false → Still (there b)) (e : List ℕ) where
-    abbrev marks : List ℕ
+    abbrev marks : Marks
     marks = marksOf (b .size) (b .chips)
 
     stops : (length e is 4) ≡ false → carried b (idle (b .decoder) marks 32 0 0 0) ≡ stepOf b e

@@ -5,5 +5,6 @@ pub mod Ways
 pub mod Tables
 pub mod Ports
 pub mod Halves
+pub mod Plans
 pub mod Steps
 pub mod Lifted

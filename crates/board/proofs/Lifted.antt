@@ -12,9 +12,9 @@ use lib.Seq.{getD-set-same, getD-set-other}
 use Rattle.chip.specs.declared.Chip.{Chip}
 use Rattle.events.specs.Events.{Event}
 use Rattle.events.specs.Act.{step}
-use Rattle.chain.specs.Chain.{sideOf}
+use Rattle.chain.specs.Chain.{most, sideOf}
 use Rattle.board.specs.declared.Board.{Board}
-use Rattle.board.specs.Board.{most, soundBoard}
+use Rattle.board.specs.Board.{soundBoard}
 use Rattle.board.specs.Step.{at, taken}
 use Rattle.board.specs.Halves.{blank}
 use Rattle.board.proofs.There.{within-set}

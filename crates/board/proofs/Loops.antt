@@ -9,11 +9,14 @@ use native.Mathlib.Nat.{not-suc-le-zero, le-of-suc-le-suc}
 use native.Mathlib.Omega.{arith}
 use lib.Dec.{ltb}
 use borrow.Author.Tests.{ltb-true, ltb-false}
-use lib.ListN.{length, length-set, length-replicate, getD, set, take, drop, replicate}
+use lib.ListN.{length, length-set, getD, set, take, drop}
+use lib.Seq.{set-getD}
 use Rattle.bits.proofs.Logic.{byCases, both}
 use Rattle.chip.specs.declared.Chip.{Chip}
 use Rattle.chip.specs.Sound.{soundChip}
-use Rattle.chain.specs.Marks.{markOf, marksOf}
+use Rattle.chain.specs.Chain.{most}
+use Rattle.chain.specs.Marks.{Marks, unmarkedOf, markedOf, marksOf}
+use Rattle.chain.proofs.Marks.{none-marked, one-more-marked, all-marked}
 use Rattle.board.specs.Board.{within, soundAll, sizeOk}
 use Rattle.board.specs.Halves.{stirs, stirsSome, lookOf, blank}
 use Rattle.board.specs.declared.Look.{Look}
@@ -58,24 +61,6 @@ fill-within f zero [] = refl
 fill-within f zero (c ∷ cs) = refl
 fill-within f (suc n) [] = refl
 fill-within f (suc n) (c ∷ cs) = ap (λ (l : List Chip). f c ∷ l) (fill-within f n cs)
-
-pub fill-marks : (n m : ℕ) (cs : List Chip) → length cs ≡ m → fill markOf 0 n (replicate m 0) cs ≡ marksOf n cs
-fill-marks n zero [] h = refl
-fill-marks n (suc m) [] h = absurd (omega (arith, h))
-fill-marks n zero (c ∷ cs) h = absurd (omega (arith, h))
-fill-marks zero (suc m) (c ∷ cs) h = ap (λ (l : List ℕ). 0 ∷ l) (sym (fill-done markOf 0 0 (replicate m 0) cs (omega arith)) ∙ fill-marks zero m cs (omega (arith, h)))
-fill-marks (suc n) (suc m) (c ∷ cs) h = ap (λ (l : List ℕ). markOf c ∷ l) (fill-marks n m cs (omega (arith, h)))
-
-pub fill-marks-of : (f : Chip → Chip) (n m : ℕ) (cs : List Chip) → length cs ≡ m → fill (λ c. markOf (f c)) 0 n (replicate m 0) cs ≡ marksOf n (within n (map f) cs)
-fill-marks-of f n zero [] h = go n
-  where
-    go : (n : ℕ) → [] ≡ marksOf n (within n (map f) [])
-    go zero = refl
-    go (suc n) = refl
-fill-marks-of f n (suc m) [] h = absurd (omega (arith, h))
-fill-marks-of f n zero (c ∷ cs) h = absurd (omega (arith, h))
-fill-marks-of f zero (suc m) (c ∷ cs) h = ap (λ (l : List ℕ). 0 ∷ l) (sym (fill-done (λ c. markOf (f c)) 0 0 (replicate m 0) cs (omega arith)) ∙ fill-marks-of f zero m cs (omega (arith, h)))
-fill-marks-of f (suc n) (suc m) (c ∷ cs) h = ap (λ (l : List ℕ). markOf (f c) ∷ l) (fill-marks-of f n m cs (omega (arith, h)))
 
 -- ---- the chips that are there, from index i on
 left-step : (i n : ℕ) (cs : List Chip) (d : Chip) → i < n → i < length cs → drop i (take n cs) ≡ getD cs i d ∷ drop (suc i) (take n cs)
@@ -122,26 +107,26 @@ or-moves true b c = refl
 or-moves false b c = refl
 
 module _ (n : ℕ) (cs : List Chip) where
-  pub record Looking (sound due : Bool) (marks : List ℕ) (i : ℕ) : Type 0 where
+  pub record Looking (sound due : Bool) (marks : Marks) (i : ℕ) : Type 0 where
     pub sounds : (sound && soundAll (drop i (take n cs))) ≡ (sizeOk n && soundAll (take n cs))
     pub dues : (due || stirsSome (drop i (take n cs))) ≡ stirsSome (take n cs)
-    pub fills : fill markOf i n marks cs ≡ marksOf n cs
-    pub long : length marks ≡ length cs
+    pub marked : marks ≡ marksOf i cs
+    pub upto : i ≤ n
 
-  pub look-begins : (m : ℕ) → length cs ≡ m → Looking (sizeOk n) false (replicate m 0) 0
-  look-begins m h = record { sounds = refl; dues = refl; fills = fill-marks n m cs h; long = simp length-replicate (sym h) }
+  pub look-begins : (ms : Marks) → length cs ≡ most → ms ≡ unmarkedOf → Looking (sizeOk n) false ms 0
+  look-begins ms h e = record { sounds = refl; dues = refl; marked = e ∙ none-marked most cs h; upto = omega arith }
 
   pub look-turns :
-      {s d : Bool} {ms : List ℕ} {i : ℕ} (x y : Bool) (m : ℕ) → Looking s d ms i → i < n → i < length cs
-      → x ≡ soundChip (getD cs i blank) → y ≡ stirs (getD cs i blank) → m ≡ markOf (getD cs i blank) → Looking (s && x) (d || y) (set ms i m) (i + 1)
-  look-turns {s} {d} {ms} {i} x y m l h k ex ey em =
+      {s d : Bool} {ms : Marks} {i : ℕ} (x y : Bool) (next : Marks) → Looking s d ms i → i < n → i < length cs
+      → x ≡ soundChip (getD cs i blank) → y ≡ stirs (getD cs i blank) → next ≡ markedOf ms i (getD cs i blank) → Looking (s && x) (d || y) next (i + 1)
+  look-turns {s} {d} {ms} {i} x y next l h k ex ey en =
       let rest = left-turn i n cs blank h k in
       let past = drop (i + 1) (take n cs) in
       record {
         sounds = rw (ex) (and-moves s (soundChip (getD cs i blank)) (soundAll past) ∙ (rw (rest) at (l .sounds)));
         dues = rw (ey) (or-moves d (stirs (getD cs i blank)) (stirsSome past) ∙ (rw (rest) at (l .dues)));
-        fills = rw (em) (fill-turn markOf blank i n ms cs h k ∙ l .fills);
-        long = simp length-set (l .long);
+        marked = en ∙ ap (λ (m : Marks). markedOf m i (getD cs i blank)) (l .marked) ∙ one-more-marked i cs (getD cs i blank) k ∙ ap (marksOf (i + 1)) (set-getD cs i blank);
+        upto = omega (arith, h);
       }
 
   and-end : (a : Bool) → (a && true) ≡ a
@@ -152,47 +137,47 @@ module _ (n : ℕ) (cs : List Chip) where
   or-end true = refl
   or-end false = refl
 
-  look-is : (s d x y : Bool) (ms ns : List ℕ) → s ≡ x → d ≡ y → ms ≡ ns → _≡_ {A = Look} (record { sound = s; due = d; marks = ms }) (record { sound = x; due = y; marks = ns })
+  look-is : (s d x y : Bool) (ms ns : Marks) → s ≡ x → d ≡ y → ms ≡ ns → _≡_ {A = Look} (record { sound = s; due = d; marks = ms }) (record { sound = x; due = y; marks = ns })
   look-is s d x y ms ns e f g = rw (e, f, g)
 
-  ends : {s d : Bool} {ms : List ℕ} {i : ℕ} → Looking s d ms i → drop i (take n cs) ≡ [] → fill markOf i n ms cs ≡ ms → _≡_ {A = Look} (record { sound = s; due = d; marks = ms }) (lookOf n cs)
+  ends : {s d : Bool} {ms : Marks} {i : ℕ} → Looking s d ms i → drop i (take n cs) ≡ [] → marksOf i cs ≡ marksOf n cs → _≡_ {A = Look} (record { sound = s; due = d; marks = ms }) (lookOf n cs)
   unfolding lookOf
   ends {s} {d} {ms} {i} l e f =
       look-is s d (sizeOk n && soundAll (take n cs)) (stirsSome (take n cs)) ms (marksOf n cs)
-      (sym (and-end s) ∙ (rw e at (l .sounds))) (sym (or-end d) ∙ (rw e at (l .dues))) (sym f ∙ l .fills)
+      (sym (and-end s) ∙ (rw e at (l .sounds))) (sym (or-end d) ∙ (rw e at (l .dues))) (l .marked ∙ f)
 
-  pub look-ends : {s d : Bool} {ms : List ℕ} {i : ℕ} (m : ℕ) → Looking s d ms i → length cs ≡ m → (ltb i m && ltb i n) ≡ false → _≡_ {A = Look} (record { sound = s; due = d; marks = ms }) (lookOf n cs)
-  look-ends {s} {d} {ms} {i} m l e t =
+  pub look-ends : {s d : Bool} {ms : Marks} {i : ℕ} (m : ℕ) → Looking s d ms i → length cs ≡ m → (ltb i m && ltb i n) ≡ false → _≡_ {A = Look} (record { sound = s; due = d; marks = ms }) (lookOf n cs)
+  look-ends {i = i} m l e t =
       past i m n t
-      (λ h. ends l (left-all i n cs (rw e h)) (fill-all markOf i n ms cs (rw (l .long, e) h)))
-      (λ h. ends l (left-done i n cs h) (fill-done markOf i n ms cs h))
+      (λ h. ends l (left-all i n cs (rw e h)) (all-marked i n cs (rw e h) (l .upto)))
+      (λ h. ends l (left-done i n cs h) (ap (λ (j : ℕ). marksOf j cs) (omega (arith, h, l .upto))))
 
 -- ---- each chip that is there changed in its turn
 module _ (f : Chip → Chip) (n : ℕ) (cs : List Chip) where
-  pub record Sweeping (next : List Chip) (marks : List ℕ) (i : ℕ) : Type 0 where
+  pub record Sweeping (next : List Chip) (marks : Marks) (i : ℕ) : Type 0 where
     pub fills : fill f i n next cs ≡ within n (map f) cs
-    pub marked : fill (λ c. markOf (f c)) i n marks cs ≡ marksOf n (within n (map f) cs)
+    pub marked : marks ≡ marksOf i next
     pub long : length next ≡ length cs
-    pub short : length marks ≡ length cs
+    pub upto : i ≤ n
 
-  pub sweep-begins : (m : ℕ) → length cs ≡ m → Sweeping cs (replicate m 0) 0
-  sweep-begins m h = record { fills = fill-within f n cs; marked = fill-marks-of f n m cs h; long = refl; short = simp length-replicate (sym h) }
+  pub sweep-begins : (ms : Marks) → length cs ≡ most → ms ≡ unmarkedOf → Sweeping cs ms 0
+  sweep-begins ms h e = record { fills = fill-within f n cs; marked = e ∙ none-marked most cs h; long = refl; upto = omega arith }
 
   pub sweep-turns :
-      {next : List Chip} {ms : List ℕ} {i : ℕ} (c : Chip) (m : ℕ) → Sweeping next ms i → i < n → i < length cs
-      → c ≡ f (getD cs i blank) → m ≡ markOf c → Sweeping (set next i c) (set ms i m) (i + 1)
-  sweep-turns {next} {ms} {i} c m l h k ec em =
+      {next : List Chip} {ms : Marks} {i : ℕ} (c : Chip) (ns : Marks) → Sweeping next ms i → i < n → i < length cs
+      → c ≡ f (getD cs i blank) → ns ≡ markedOf ms i c → Sweeping (set next i c) ns (i + 1)
+  sweep-turns {next} {ms} {i} c ns l h k ec en =
       record {
         fills = rw (ec) (fill-turn f blank i n next cs h k ∙ l .fills);
-        marked = rw (em, ec) (fill-turn (λ x. markOf (f x)) blank i n ms cs h k ∙ l .marked);
+        marked = en ∙ ap (λ (m : Marks). markedOf m i c) (l .marked) ∙ one-more-marked i next c (rw (l .long) k);
         long = simp length-set (l .long);
-        short = simp length-set (l .short);
+        upto = omega (arith, h);
       }
 
   pub sweep-ends :
-      {next : List Chip} {ms : List ℕ} {i : ℕ} (m : ℕ) → Sweeping next ms i → length cs ≡ m → (ltb i m && ltb i n) ≡ false
-      → (next ≡ within n (map f) cs) × (ms ≡ marksOf n (within n (map f) cs))
+      {next : List Chip} {ms : Marks} {i : ℕ} (m : ℕ) → Sweeping next ms i → length cs ≡ m → (ltb i m && ltb i n) ≡ false
+      → (next ≡ within n (map f) cs) × (ms ≡ marksOf n next)
   sweep-ends {next} {ms} {i} m l e t =
       past i m n t
-      (λ h. (sym (fill-all f i n next cs (rw (l .long, e) h)) ∙ l .fills, sym (fill-all (λ x. markOf (f x)) i n ms cs (rw (l .short, e) h)) ∙ l .marked))
-      (λ h. (sym (fill-done f i n next cs h) ∙ l .fills, sym (fill-done (λ x. markOf (f x)) i n ms cs h) ∙ l .marked))
+      (λ h. (sym (fill-all f i n next cs (rw (l .long, e) h)) ∙ l .fills, l .marked ∙ all-marked i n next (rw (l .long, e) h) (l .upto)))
+      (λ h. (sym (fill-done f i n next cs h) ∙ l .fills, l .marked ∙ ap (λ (j : ℕ). marksOf j next) (omega (arith, h, l .upto))))

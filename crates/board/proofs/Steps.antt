@@ -19,6 +19,7 @@ use Rattle.port.specs.declared.Port.{Port}
 use Rattle.chip.specs.declared.Chip.{Chip}
 use Rattle.chip.specs.Chip.{side, port}
 use Rattle.chip.specs.Chip as chip
+use Rattle.chain.specs.Chain.{most}
 use Rattle.chain.specs.Marks.{marksOf}
 use Rattle.board.specs.declared.Board.{Board}
 use Rattle.board.specs.declared.Look.{Look}
@@ -26,7 +27,7 @@ use Rattle.board.specs.declared.Lines.{Lines}
 use Rattle.board.specs.declared.Plan.{Plan}
 use Rattle.board.specs.declared.Changed.{Changed}
 use Rattle.board.specs.declared.Swept.{Swept}
-use Rattle.board.specs.Board.{most, there, sizeOk, soundAll, soundBoard, linesOf}
+use Rattle.board.specs.Board.{there, sizeOk, soundAll, soundBoard, linesOf}
 use Rattle.board.specs.Step.{placeOf, valueOf, refusal, refused, answer, stepOf}
 use Rattle.board.specs.Halves.{stirsPort, stirs, stirsSome, lookOf, idle, seenPlan, firstOf, changedOf, blank, sweptOf, joined, wholly, singly, idly, carried}
 use Rattle.board.proofs.Ways.{off, on, sound-is}

@@ -11,15 +11,11 @@ use Rattle.port.specs.declared.Port.{Port}
 use Rattle.chip.specs.declared.Chip.{Chip}
 use Rattle.chip.specs.Chip.{freshChip}
 use Rattle.chip.specs.Sound.{soundChip}
-use Rattle.chain.specs.Chain.{flat, asker, asks}
+use Rattle.chain.specs.Chain.{most, flat, asker, asks}
 use Rattle.chain.specs.Decode.{shut}
 use Rattle.board.specs.declared.Board.{Board}
 use Rattle.board.specs.declared.Lines.{Lines}
 use Rattle.board.specs.declared.Made.{Made}
-
--- the most chips that a board can have
-abbrev pub most : ℕ
-most = 4
 
 -- the chips that are there, and their ports in the order of their places
 abbrev pub there : Board → List Chip

@@ -15,8 +15,9 @@ use Rattle.chip.specs.Chip as chip
 use Rattle.events.specs.declared.Acted.{Acted}
 use Rattle.events.specs.Act.{eventOf, actOf}
 use Rattle.chain.specs.declared.Decoder.{Decoder}
+use Rattle.chain.specs.Chain.{most}
 use Rattle.chain.specs.Decode.{shut, nextOf, retiOf}
-use Rattle.chain.specs.Marks.{markOf, marksOf, callerOf, holderOf}
+use Rattle.chain.specs.Marks.{Marks, markedOf, marksOf, callerOf, holderOf}
 use Rattle.board.specs.declared.Board.{Board}
 use Rattle.board.specs.declared.Answer.{Answer}
 use Rattle.board.specs.declared.Stepped.{Stepped}
@@ -24,7 +25,7 @@ use Rattle.board.specs.declared.Look.{Look}
 use Rattle.board.specs.declared.Plan.{Plan}
 use Rattle.board.specs.declared.Changed.{Changed}
 use Rattle.board.specs.declared.Swept.{Swept}
-use Rattle.board.specs.Board.{most, within, soundAll, sizeOk}
+use Rattle.board.specs.Board.{within, soundAll, sizeOk}
 use Rattle.board.specs.Step.{kindOf, placeOf, valueOf, lastOf, line, verdict, placeBad, valueBad, answer}
 
 -- ---- one look at every chip that is there
@@ -53,38 +54,38 @@ earlyOf size kind place value last =
     ∷ [])
 
 -- only the decoder changes, and the answer is known
-abbrev pub idle : Decoder → List ℕ → ℕ → ℕ → ℕ → ℕ → Plan
+abbrev pub idle : Decoder → Marks → ℕ → ℕ → ℕ → ℕ → Plan
 idle d marks code place value request =
     record { whole = false; one = false; chip = 0; second = false; kind = 0; code = code; place = place; value = value; request = request; marks = marks; decoder = d }
 
 -- a port of one chip: the one at a place
-abbrev pub single : Decoder → List ℕ → ℕ → ℕ → ℕ → ℕ → ℕ → Plan
+abbrev pub single : Decoder → Marks → ℕ → ℕ → ℕ → ℕ → ℕ → Plan
 single d marks kind code place value request =
     record { whole = false; one = true; chip = place / 2 % most; second = (place % 2 is 1); kind = kind; code = code; place = place; value = value; request = request; marks = marks; decoder = d }
 
 -- a fetch: of every chip if one is stirred; and a RETI releases the nearest port under service
-abbrev pub fetchAt : Decoder → List ℕ → Bool → Bool → ℕ → ℕ → ℕ → Plan
+abbrev pub fetchAt : Decoder → Marks → Bool → Bool → ℕ → ℕ → ℕ → Plan
 fetchAt d marks due frees held value request =
     record { whole = due; one = frees; chip = held / 2 % most; second = (held % 2 is 1); kind = 1; code = 0; place = 0; value = value; request = request; marks = marks; decoder = nextOf d value }
 
-unfoldable pub fetchPlan : Decoder → List ℕ → Bool → ℕ → ℕ → Plan
+unfoldable pub fetchPlan : Decoder → Marks → Bool → ℕ → ℕ → Plan
 fetchPlan d marks due value request =
     if not (retiOf d value) then fetchAt d marks due false 0 value request else
     if holderOf marks is 0 then fetchAt d marks due false 0 value request else
     fetchAt d marks due true (holderOf marks - 1) value request
 
 -- an acknowledge goes to the place that the request names
-unfoldable pub acknowledgePlan : List ℕ → ℕ → Plan
+unfoldable pub acknowledgePlan : Marks → ℕ → Plan
 acknowledgePlan marks request =
     if request is 0 then idle shut marks 3 0 255 request else
     single shut marks 2 2 (request - 1) 0 request
 
-abbrev pub resetPlan : List ℕ → ℕ → ℕ → Plan
+abbrev pub resetPlan : Marks → ℕ → ℕ → Plan
 resetPlan marks value request =
     record { whole = true; one = false; chip = 0; second = false; kind = 0; code = 0; place = 0; value = value; request = request; marks = marks; decoder = shut }
 
 -- kind, place and value of an event with no early refusal
-unfoldable pub acceptedPlan : Decoder → List ℕ → Bool → ℕ → ℕ → ℕ → ℕ → Plan
+unfoldable pub acceptedPlan : Decoder → Marks → Bool → ℕ → ℕ → ℕ → ℕ → Plan
 acceptedPlan d marks due request kind place value =
     if kind is 1 then fetchPlan d marks due value request else
     if kind is 0 then resetPlan marks value request else
@@ -94,7 +95,7 @@ acceptedPlan d marks due request kind place value =
 abbrev pub earlyAt : ℕ → List ℕ → ℕ
 earlyAt size e = earlyOf size (kindOf e) (placeOf e) (valueOf e) (lastOf e)
 
-unfoldable pub planOf : ℕ → Decoder → List ℕ → Bool → ℕ → List ℕ → Plan
+unfoldable pub planOf : ℕ → Decoder → Marks → Bool → ℕ → List ℕ → Plan
 planOf size d marks due request e =
     if not (length e is 4) then idle d marks 32 0 0 0 else
     if not (earlyAt size e is 0) then idle d marks (earlyAt size e) (placeOf e) (valueOf e) request else
@@ -122,9 +123,9 @@ touchedOf c w =
 abbrev pub withActed : Plan → Acted → Changed
 withActed w r = record {
   chip = r .chip;
-  marks = set (w .marks) (w .chip) (markOf (r .chip));
+  marks = markedOf (w .marks) (w .chip) (r .chip);
   due = stirs (r .chip);
-  answer = answer (r .code) (w .place) (r .value) (callerOf (set (w .marks) (w .chip) (markOf (r .chip))));
+  answer = answer (r .code) (w .place) (r .value) (callerOf (markedOf (w .marks) (w .chip) (r .chip)));
 }
 
 unfoldable pub changedOf : Chip → Plan → Changed

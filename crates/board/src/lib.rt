@@ -2,16 +2,19 @@
 // soundness, driven lines. A step has two halves, so that a run can keep the chips in a local array and move one of them: `plans`
 // reads the event's four bytes and says which chips it concerns, `steps` changes them. Their types and definitions are here.
 use chain::Decoder;
+use chain::MOST;
+use chain::Marks;
 use chip::Chip;
 ghost use mathlib.Core.Path.{_≡_};
 ghost use lib.ListN.{length};
+ghost use Rattle.chain.specs.Chain.{most};
 ghost use Rattle.board.specs.Board.{freshOf, linesOf};
 ghost use Rattle.board.specs.Halves.{stirs, lookOf};
 
 #[repr(C)]
 pub struct Board {
     pub size: u8,
-    pub chips: [Chip; 4],
+    pub chips: [Chip; MOST],
     pub decoder: Decoder,
 }
 
@@ -46,7 +49,7 @@ pub struct Lines {
 pub struct Look {
     pub sound: bool,
     pub due: bool,
-    pub marks: [u8; 4],
+    pub marks: Marks,
 }
 
 // What an event asks of the board. `whole`: of every chip; `one`: of the chip `chip`, at its second port if `second`. Neither: the
@@ -61,22 +64,22 @@ pub struct Plan {
     pub place: u8,
     pub value: u8,
     pub request: u8,
-    pub marks: [u8; 4],
+    pub marks: Marks,
     pub decoder: Decoder,
 }
 
 // One chip after an event, with the marks of all, the answer, and whether a fetch would make one of its ports live.
 pub struct Changed {
     pub chip: Chip,
-    pub marks: [u8; 4],
+    pub marks: Marks,
     pub due: bool,
     pub answer: Answer,
 }
 
 // Every chip after an event, with their marks and the answer.
 pub struct Swept {
-    pub chips: [Chip; 4],
-    pub marks: [u8; 4],
+    pub chips: [Chip; MOST],
+    pub marks: Marks,
     pub answer: Answer,
 }
 
@@ -85,7 +88,7 @@ pub fn fresh(size: usize) -> Made
     ensures { λ r. ⌜ r ≡ freshOf size ⌝ }
 {
     let c = chip::fresh_chip();
-    let chips = [c; 4];
+    let chips = [c; MOST];
     let decoder = Decoder { prefix: 0 };
     if size == 0 {
         return Made {
@@ -97,7 +100,7 @@ pub fn fresh(size: usize) -> Made
             },
         };
     }
-    if size > 4 {
+    if size > MOST {
         return Made {
             code: 33,
             board: Board {
@@ -126,20 +129,21 @@ pub fn stirred(c: Chip) -> bool
     (a.asked & !(a.awaiting == 2) & !a.live) | (b.asked & !(b.awaiting == 2) & !b.live)
 }
 
-// One look at every chip that is there. That the row has four chips is said for callers whose row is a board's field.
-pub fn look_over(size: u8, chips: [Chip; 4]) -> Look
-    ensures { λ r. ⌜ (r ≡ lookOf size chips) × (length chips ≡ 4) ⌝ }
+// One look at every chip that is there. How long the row of chips is is said for callers whose row is a board's field.
+pub fn look_over(size: u8, chips: [Chip; MOST]) -> Look
+    ensures { λ r. ⌜ (r ≡ lookOf size chips) × (length chips ≡ most) ⌝ }
 {
     let n = size as usize;
-    let mut sound = (size >= 1) & (size <= 4);
+    let mut sound = (n >= 1) & (n <= MOST);
     let mut due = false;
-    let mut marks = [0; 4];
+    let mut marks = chain::unmarked();
     let mut i: usize = 0;
-    while (i < 4) & (i < n) {
+    while (i < MOST) & (i < n) {
         let c = chips[i];
         sound = sound & chip::sound(c);
         due = due | stirred(c);
-        marks[i] = chain::mark(c);
+        let more = chain::marked(marks, i, c);
+        marks = more;
         i += 1;
     }
     Look {

@@ -1,19 +1,21 @@
 -- The marks say of the chain what all its ports say: who asks, and who is under service.
 -- Assumes nothing.
-use mathlib.Core.Path.{_≡_, refl, ap, _∙_}
+use mathlib.Core.Path.{_≡_, refl, sym, ap, _∙_}
 use mathlib.Core.Bool.{Bool, true, false, _&&_, not}
 use mathlib.Core.List.{List, [], _∷_, map}
-use Prim.Native.Nat.{ℕ, zero, suc, _+_, _*_, _/_, _%_, _<_}
+use Prim.Native.Nat.{ℕ, zero, suc, _+_, _*_, _/_, _%_, _≤_, _<_}
 use native.Mathlib.Nat.{not-suc-le-zero, le-of-suc-le-suc}
 use native.Mathlib.Omega.{arith}
 use lib.Dec.{ltb, leb·suc-suc, leb·zero}
-use lib.ListN.{length, length-map, take, set}
+use lib.ListN.{length, length-map, getD, take, set, replicate}
+use lib.Seq.{set-getD}
 use Rattle.bits.specs.Bits.{if_then_else_, _is_}
 use Rattle.port.specs.declared.Port.{Port}
 use Rattle.chip.specs.declared.Chip.{Chip}
 use Rattle.chain.specs.Places.{first}
-use Rattle.chain.specs.Chain.{ready, under, asking, asker, asks, holder, flat}
-use Rattle.chain.specs.Marks.{markOf, marksOf, up, callerOf, holderOf}
+use Rattle.chain.specs.Chain.{most, ready, under, asking, asker, asks, holder, flat}
+use Rattle.chain.specs.Marks.{markOf, Marks, markedOf, marksOf, up, callerOf, holderOf}
+use Rattle.chain.proofs.Places.{set-beyond}
 
 -- ---- the nearest set place and 1, or 0 if none is set
 abbrev next : ℕ → ℕ
@@ -122,13 +124,43 @@ pub holder-is : (n : ℕ) (cs : List Chip) → holderOf (marksOf n cs) ≡ (if l
 holder-is n cs = holder-named n cs ∙ named-is (map under (flat (take n cs))) ∙ rw (length-map (flat (take n cs)) under)
 
 -- ---- a chip changed is a mark changed
-pub marks-set : (n : ℕ) (cs : List Chip) (k : ℕ) (c : Chip) → k < n → marksOf n (set cs k c) ≡ set (marksOf n cs) k (markOf c)
+pub marks-set : (n : ℕ) (cs : List Chip) (k : ℕ) (c : Chip) → k < n → marksOf n (set cs k c) ≡ markedOf (marksOf n cs) k c
 marks-set zero cs k c h = absurd (not-suc-le-zero h)
 marks-set (suc n) [] k c h = refl
 marks-set (suc n) (x ∷ cs) zero c h = refl
 marks-set (suc n) (x ∷ cs) (suc k) c h = ap (λ (l : List ℕ). markOf x ∷ l) (marks-set n cs k c (le-of-suc-le-suc h))
 
-pub marks-length : (n : ℕ) (cs : List Chip) → length (marksOf n cs) ≡ length cs
-marks-length n [] = refl
-marks-length zero (c ∷ cs) = rw (marks-length zero cs)
-marks-length (suc n) (c ∷ cs) = rw (marks-length n cs)
+-- ---- the marks made in turn, chip after chip, and each chip's own as it goes
+pub none-marked : (m : ℕ) (cs : List Chip) → length cs ≡ m → replicate m 0 ≡ marksOf 0 cs
+none-marked zero [] e = refl
+none-marked (suc m) [] e = absurd (omega (arith, e))
+none-marked zero (c ∷ cs) e = absurd (omega (arith, e))
+none-marked (suc m) (c ∷ cs) e = ap (λ (l : Marks). 0 ∷ l) (none-marked m cs (omega (arith, e)))
+
+marks-put : (i : ℕ) (cs : List Chip) (c : Chip) → i < length cs → markedOf (marksOf i cs) i c ≡ marksOf (suc i) (set cs i c)
+marks-put i [] c h = absurd (not-suc-le-zero h)
+marks-put zero (x ∷ cs) c h = refl
+marks-put (suc i) (x ∷ cs) c h = ap (λ (l : Marks). markOf x ∷ l) (marks-put i cs c (le-of-suc-le-suc h))
+
+pub one-more-marked : (i : ℕ) (cs : List Chip) (c : Chip) → i < length cs → markedOf (marksOf i cs) i c ≡ marksOf (i + 1) (set cs i c)
+one-more-marked i cs c h = let e : i + 1 ≡ suc i = omega arith in rw e (marks-put i cs c h)
+
+pub all-marked : (i n : ℕ) (cs : List Chip) → length cs ≤ i → i ≤ n → marksOf i cs ≡ marksOf n cs
+all-marked i n [] h k = refl
+all-marked zero n (c ∷ cs) h k = absurd (not-suc-le-zero h)
+all-marked (suc i) zero (c ∷ cs) h k = absurd (not-suc-le-zero k)
+all-marked (suc i) (suc n) (c ∷ cs) h k = ap (λ (l : Marks). markOf c ∷ l) (all-marked i n cs (le-of-suc-le-suc h) (le-of-suc-le-suc k))
+
+-- ---- the ways out of `marked` and `renewed`
+module _ (ms : Marks) (k : ℕ) (c : Chip) where
+  pub sets-mark : (m : ℕ) → m ≡ markOf c → set ms k m ≡ markedOf ms k c
+  sets-mark m e = rw e
+
+  pub asks-still : (r : ℕ) → length ms ≡ most → most ≤ k → r ≡ callerOf ms → r ≡ callerOf (markedOf ms k c)
+  asks-still r l h e = e ∙ ap callerOf (set-beyond ms k (markOf c) most l h)
+
+  pub asks-same : (r m : ℕ) → getD ms k 0 ≡ m → m ≡ markOf c → r ≡ callerOf ms → r ≡ callerOf (markedOf ms k c)
+  asks-same r m e i h = h ∙ ap callerOf (sym (set-getD ms k 0) ∙ ap (set ms k) (e ∙ i))
+
+  pub asks-anew : (r m : ℕ) → m ≡ markOf c → r ≡ callerOf (set ms k m) → r ≡ callerOf (markedOf ms k c)
+  asks-anew r m e h = h ∙ ap callerOf (sets-mark m e)

@@ -12,6 +12,10 @@ use Rattle.chip.specs.declared.Chip.{Chip}
 use Rattle.chip.specs.Chip.{Side, side, on}
 use Rattle.chain.specs.Places.{first, adjust}
 
+-- the most chips that a chain can have
+abbrev pub most : ℕ
+most = 4
+
 abbrev pub ready : Port → Bool
 ready p = p .waiting && p .live
 

@@ -4,7 +4,13 @@ use chip::Chip;
 ghost use mathlib.Core.Path.{_≡_};
 ghost use Rattle.bits.specs.Bits.{if_then_else_};
 ghost use Rattle.chain.specs.Decode.{nextOf, retiOf};
-ghost use Rattle.chain.specs.Marks.{markOf, callerOf, holderOf};
+ghost use Rattle.chain.specs.Marks.{markOf, unmarkedOf, markedOf, callerOf, holderOf};
+
+// The most chips that a chain can have.
+pub const MOST: usize = 4;
+
+// What is kept of the chips, so that who asks and who is released need no look at every port. Only the functions here know what is in it.
+pub type Marks = [u8; MOST];
 
 // The decoder's small memory: 0 nothing, 1 an ED was fetched last and opened.
 #[repr(C)]
@@ -39,7 +45,7 @@ fn choose(first: bool, x: u8, y: u8) -> u8
 }
 
 // What the chain needs to know of a chip. No branch hangs on the ports' flags: nobody can foretell them.
-pub fn mark(c: Chip) -> u8
+fn mark(c: Chip) -> u8
     ensures { λ r. ⌜ r ≡ markOf c ⌝ }
 {
     let a = c.a;
@@ -54,12 +60,31 @@ pub fn mark(c: Chip) -> u8
     )
 }
 
+// The marks of no chips.
+pub fn unmarked() -> Marks
+    ensures { λ r. ⌜ r ≡ unmarkedOf ⌝ }
+{
+    [0; MOST]
+}
+
+// The marks where the chip `k` is now `c`.
+pub fn marked(marks: Marks, k: usize, c: Chip) -> Marks
+    ensures { λ r. ⌜ r ≡ markedOf marks k c ⌝ }
+{
+    if k >= MOST {
+        return marks;
+    }
+    let mut next = marks;
+    next[k] = mark(c);
+    next
+}
+
 // The place of the nearest asking port and 1, or 0 if none asks.
-pub fn caller(marks: [u8; 4]) -> u8
+pub fn caller(marks: Marks) -> u8
     ensures { λ r. ⌜ r ≡ callerOf marks ⌝ }
 {
     let mut i: usize = 0;
-    while i < 4 {
+    while i < MOST {
         let met = marks[i] % 4;
         if met == 3 {
             return 0;
@@ -72,12 +97,28 @@ pub fn caller(marks: [u8; 4]) -> u8
     0
 }
 
+// Who asks where the chip `k` is now `c`; `request` is who asked before. It is searched for only if the chip's mark changes.
+pub fn renewed(marks: Marks, k: usize, c: Chip, request: u8) -> u8
+    ensures { λ r. ⌜ (request ≡ callerOf marks → r ≡ callerOf (markedOf marks k c)) ⌝ }
+{
+    if k >= MOST {
+        return request;
+    }
+    let m = mark(c);
+    if marks[k] == m {
+        return request;
+    }
+    let mut next = marks;
+    next[k] = m;
+    caller(next)
+}
+
 // The place of the nearest port under service and 1, or 0 if none is.
-pub fn holder(marks: [u8; 4]) -> usize
+pub fn holder(marks: Marks) -> usize
     ensures { λ r. ⌜ r ≡ holderOf marks ⌝ }
 {
     let mut i: usize = 0;
-    while i < 4 {
+    while i < MOST {
         let held = marks[i] / 4 % 4;
         if held != 0 {
             return 2 * i + held as usize;

@@ -1,6 +1,6 @@
 -- Ask 2: whom the fourth byte names.
 -- Assumes nothing.
-use mathlib.Core.Path.{_≡_, refl, ap, _∙_}
+use mathlib.Core.Path.{_≡_, refl}
 use mathlib.Core.Bool.{Bool, true}
 use mathlib.Core.List.{List}
 use Prim.Native.Nat.{ℕ, _+_, _-_}
@@ -9,7 +9,7 @@ use lib.ListN.{length}
 use borrow.Author.Tests.{eq-eqb, ne-eqb}
 use Rattle.bits.specs.Bits.{if_then_else_, _is_}
 use Rattle.bits.proofs.Logic.{byCases}
-use Rattle.events.specs.Events.{Event, control, write, read, strobe, outside}
+use Rattle.events.specs.Events.{control, write, read, strobe, outside}
 use Rattle.chain.specs.Chain.{asker, asks}
 use Rattle.board.specs.declared.Board.{Board}
 use Rattle.board.specs.Board.{ports, portAt, soundBoard, requestOf}

@@ -16,12 +16,12 @@ use Rattle.chip.specs.Chip.{freshChip}
 use Rattle.chip.specs.Sound.{soundChip}
 use Rattle.chip.proofs.Keep.{fresh-sound}
 use Rattle.chain.specs.Places.{places, adjust}
-use Rattle.chain.specs.Chain.{under, asker, asks, flat, acknowledged}
+use Rattle.chain.specs.Chain.{most, under, asker, asks, flat, acknowledged}
 use Rattle.chain.specs.Decode.{retiOf}
 use Rattle.chain.proofs.Places.{adjust-beyond}
 use Rattle.chain.proofs.Flat.{flat-length, flat-at}
 use Rattle.board.specs.declared.Board.{Board}
-use Rattle.board.specs.Board.{most, there, ports, portAt, soundAll, sizeOk, soundBoard, blankBoard, freshOf, requestOf}
+use Rattle.board.specs.Board.{there, ports, portAt, soundAll, sizeOk, soundBoard, blankBoard, freshOf, requestOf}
 use Rattle.board.specs.Step.{valueOf, refusal, doingOf, fetch, taken, accepted, refused, stepOf}
 use Rattle.board.specs.Step as step
 use Rattle.board.proofs.There.{after-length, there-taken}

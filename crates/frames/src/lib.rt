@@ -1,4 +1,5 @@
 // What one time of a recording shows, and how long it is to the next. Document 02, Ask 1.
+use chain::MOST;
 use chip::Chip;
 ghost use mathlib.Core.Path.{_≡_};
 ghost use mathlib.Core.Bool.{_&&_};
@@ -52,7 +53,7 @@ fn shows(size: u8, k: u8, ready: bool) -> u8
 }
 
 // The nine values after a record: int, and the Ready lines of places 0 to 7.
-pub fn values(size: u8, chips: [Chip; 4], request: u8) -> [u8; 9]
+pub fn values(size: u8, chips: [Chip; MOST], request: u8) -> [u8; 9]
     ensures { λ r. ⌜ r ≡ valuesOf size chips request ⌝ }
 {
     let first = chips[0];

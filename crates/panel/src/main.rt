@@ -1,6 +1,7 @@
 // Shows the service man a fresh board of one to four chips: for every record of standard input the listing's line, and then a line for
 // each place. What is written is made in a buffer by `show_records`, whose contract says it byte for byte; the rest reads and writes.
 use board::Board;
+use chain::MOST;
 use chip::Chip;
 use libc::STDERR_FILENO;
 use libc::STDIN_FILENO;
@@ -59,7 +60,7 @@ fn put_port(out: &mut [u8], at: usize, board: Board, place: usize, p: Port) -> u
 }
 
 // The lines of every place on the board, whose chips these are.
-fn put_places(out: &mut [u8], at: usize, board: Board, chips: [Chip; 4]) -> usize
+fn put_places(out: &mut [u8], at: usize, board: Board, chips: [Chip; MOST]) -> usize
     requires { ⌜ at + 3360 ≤ length (now out) ⌝ }
     ensures { λ r. ⌜ Wrote (now (out .entry)) at (placesOf board 0 (flat (take (board .size) chips))) (now (out .exit)) r ⌝ }
     ensures { λ r. ⌜ r ≤ at + 3360 ⌝ }
@@ -67,7 +68,7 @@ fn put_places(out: &mut [u8], at: usize, board: Board, chips: [Chip; 4]) -> usiz
     let n = board.size as usize;
     let mut next = at;
     let mut i: usize = 0;
-    while (i < 4) & (i < n) {
+    while (i < MOST) & (i < n) {
         let c = chips[i];
         let place = 2 * i;
         next = put_port(out, next, board, place, c.a);

@@ -1,7 +1,7 @@
 -- What each way out of the first half gives, of any values: `search` finds the premises among what the calls ensure and what the
 -- branches tell.
 -- Assumes nothing.
-use mathlib.Core.Path.{_≡_, refl, ap, _∙_}
+use mathlib.Core.Path.{_≡_, ap, _∙_}
 use mathlib.Core.Bool.{Bool, true, false, _&&_, _||_, not}
 use mathlib.Core.List.{List}
 use Prim.Native.Nat.{ℕ, _*_, _/_, _-_, _≤_, _<_}
@@ -13,7 +13,7 @@ use Rattle.bits.specs.Bits.{if_then_else_, _is_}
 use Rattle.bits.proofs.Logic.{byCases}
 use Rattle.chain.specs.declared.Decoder.{Decoder}
 use Rattle.chain.specs.Decode.{shut, retiOf}
-use Rattle.chain.specs.Marks.{callerOf, holderOf}
+use Rattle.chain.specs.Marks.{Marks, callerOf, holderOf}
 use Rattle.board.specs.declared.Board.{Board}
 use Rattle.board.specs.declared.Look.{Look}
 use Rattle.board.specs.declared.Plan.{Plan}
@@ -52,7 +52,7 @@ module _ (size kind place value last : ℕ) where
   not-refused h e f = rw (le-ltb 7 kind h, place-test size kind place false e, f)
 
 -- ---- an acknowledge
-module _ (marks : List ℕ) (request : ℕ) (p : Plan) where
+module _ (marks : Marks) (request : ℕ) (p : Plan) where
   pub answered-none : request ≡ 0 → p ≡ idle shut marks 3 0 255 request → p ≡ acknowledgePlan marks request
   unfolding acknowledgePlan if_then_else_
   answered-none z h = rw (eq-eqb request 0 z) h
@@ -62,7 +62,7 @@ module _ (marks : List ℕ) (request : ℕ) (p : Plan) where
   answered-some z h = rw (ne-eqb request 0 z) h
 
 -- ---- a fetch
-module _ (d : Decoder) (marks : List ℕ) (due : Bool) (value request : ℕ) (p : Plan) (ends : Bool) (e : ends ≡ retiOf d value) where
+module _ (d : Decoder) (marks : Marks) (due : Bool) (value request : ℕ) (p : Plan) (ends : Bool) (e : ends ≡ retiOf d value) where
   pub fetch-plain : not ends ≡ true → p ≡ fetchAt d marks due false 0 value request → p ≡ fetchPlan d marks due value request
   unfolding fetchPlan if_then_else_
   fetch-plain t h = rw (← e, t) h
@@ -76,11 +76,11 @@ module _ (d : Decoder) (marks : List ℕ) (due : Bool) (value request : ℕ) (p 
   fetch-some k t i z h = rw (← e, t, ← i, ne-eqb k 0 z) h
 
 -- ---- an accepted event, by its kind
-pub kind-reset : (d : Decoder) (marks : List ℕ) (due : Bool) (request kind place value : ℕ) → kind ≡ 0 → resetPlan marks value request ≡ acceptedPlan d marks due request kind place value
+pub kind-reset : (d : Decoder) (marks : Marks) (due : Bool) (request kind place value : ℕ) → kind ≡ 0 → resetPlan marks value request ≡ acceptedPlan d marks due request kind place value
 unfolding acceptedPlan if_then_else_
 kind-reset d marks due request kind place value e = rw e
 
-module _ (d : Decoder) (marks : List ℕ) (due : Bool) (request kind place value : ℕ) (p : Plan) where
+module _ (d : Decoder) (marks : Marks) (due : Bool) (request kind place value : ℕ) (p : Plan) where
   pub kind-fetch : kind ≡ 1 → p ≡ fetchPlan d marks due value request → p ≡ acceptedPlan d marks due request kind place value
   unfolding acceptedPlan if_then_else_
   kind-fetch e h = rw e h
@@ -94,7 +94,7 @@ module _ (d : Decoder) (marks : List ℕ) (due : Bool) (request kind place value
   kind-place f r a h = rw (ne-eqb kind 1 f, ne-eqb kind 0 r, ne-eqb kind 2 a) h
 
 -- ---- the event's bytes
-module _ (size : ℕ) (d : Decoder) (marks : List ℕ) (due : Bool) (request : ℕ) (e : List ℕ) (p : Plan) where
+module _ (size : ℕ) (d : Decoder) (marks : Marks) (due : Bool) (request : ℕ) (e : List ℕ) (p : Plan) where
   pub not-four : (length e ≡ 4 → ⊥) → p ≡ idle d marks 32 0 0 0 → p ≡ planOf size d marks due request e
   unfolding planOf if_then_else_
   not-four n h = rw (ne-eqb (length e) 4 n) h

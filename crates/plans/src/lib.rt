@@ -5,9 +5,12 @@ use board::Board;
 use board::Look;
 use board::Plan;
 use chain::Decoder;
+use chain::MOST;
+use chain::Marks;
 ghost use mathlib.Core.Path.{_≡_};
 ghost use Prim.Native.Nat.{_<_};
 ghost use lib.ListN.{length};
+ghost use Rattle.chain.specs.Chain.{most};
 ghost use Rattle.board.specs.Halves.{earlyOf, idle, single, fetchAt, fetchPlan, acknowledgePlan, acceptedPlan, planOf, seenPlan, firstOf};
 
 // The refusals that need no look at a port, or 0.
@@ -30,15 +33,8 @@ pub fn early_refusal(size: u8, kind: u8, place: u8, value: u8, last: u8) -> u8
 }
 
 // Nothing changes but the decoder, and the answer is known.
-fn plan_nothing(
-    decoder: Decoder,
-    marks: [u8; 4],
-    code: u8,
-    place: u8,
-    value: u8,
-    request: u8,
-) -> Plan
-    ensures { λ r. ⌜ (r ≡ idle decoder marks code place value request) × (r .chip < 4) ⌝ }
+fn plan_nothing(decoder: Decoder, marks: Marks, code: u8, place: u8, value: u8, request: u8) -> Plan
+    ensures { λ r. ⌜ (r ≡ idle decoder marks code place value request) × (r .chip < most) ⌝ }
 {
     Plan {
         whole: false,
@@ -58,19 +54,19 @@ fn plan_nothing(
 // The port at one place.
 fn plan_place(
     decoder: Decoder,
-    marks: [u8; 4],
+    marks: Marks,
     kind: u8,
     code: u8,
     place: u8,
     value: u8,
     request: u8,
 ) -> Plan
-    ensures { λ r. ⌜ (r ≡ single decoder marks kind code place value request) × (r .chip < 4) ⌝ }
+    ensures { λ r. ⌜ (r ≡ single decoder marks kind code place value request) × (r .chip < most) ⌝ }
 {
     Plan {
         whole: false,
         one: true,
-        chip: (place / 2 % 4) as usize,
+        chip: place as usize / 2 % MOST,
         second: place % 2 == 1,
         kind: kind,
         code: code,
@@ -85,20 +81,20 @@ fn plan_place(
 // A fetch; `frees`: the port at the place `held` is released.
 fn plan_sweep(
     decoder: Decoder,
-    marks: [u8; 4],
+    marks: Marks,
     due: bool,
     frees: bool,
     held: usize,
     value: u8,
     request: u8,
 ) -> Plan
-    ensures { λ r. ⌜ (r ≡ fetchAt decoder marks due frees held value request) × (r .chip < 4) ⌝ }
+    ensures { λ r. ⌜ (r ≡ fetchAt decoder marks due frees held value request) × (r .chip < most) ⌝ }
 {
     let next = decoder.next(value);
     Plan {
         whole: due,
         one: frees,
-        chip: held / 2 % 4,
+        chip: held / 2 % MOST,
         second: held % 2 == 1,
         kind: 1,
         code: 0,
@@ -111,8 +107,8 @@ fn plan_sweep(
 }
 
 // An opcode fetch: it makes ports live, and where it ends a RETI it releases the nearest port under service.
-fn plan_fetch(decoder: Decoder, marks: [u8; 4], due: bool, value: u8, request: u8) -> Plan
-    ensures { λ r. ⌜ (r ≡ fetchPlan decoder marks due value request) × (r .chip < 4) ⌝ }
+fn plan_fetch(decoder: Decoder, marks: Marks, due: bool, value: u8, request: u8) -> Plan
+    ensures { λ r. ⌜ (r ≡ fetchPlan decoder marks due value request) × (r .chip < most) ⌝ }
 {
     if !decoder.reti(value) {
         return plan_sweep(decoder, marks, due, false, 0, value, request);
@@ -125,8 +121,8 @@ fn plan_fetch(decoder: Decoder, marks: [u8; 4], due: bool, value: u8, request: u
 }
 
 // An interrupt acknowledge: the port that the request names answers, or nobody.
-fn plan_acknowledge(marks: [u8; 4], request: u8) -> Plan
-    ensures { λ r. ⌜ (r ≡ acknowledgePlan marks request) × (r .chip < 4) ⌝ }
+fn plan_acknowledge(marks: Marks, request: u8) -> Plan
+    ensures { λ r. ⌜ (r ≡ acknowledgePlan marks request) × (r .chip < most) ⌝ }
 {
     let shut = Decoder { prefix: 0 };
     if request == 0 {
@@ -138,14 +134,14 @@ fn plan_acknowledge(marks: [u8; 4], request: u8) -> Plan
 // An event that no early refusal stops.
 fn plan_accepted(
     decoder: Decoder,
-    marks: [u8; 4],
+    marks: Marks,
     due: bool,
     request: u8,
     kind: u8,
     place: u8,
     value: u8,
 ) -> Plan
-    ensures { λ r. ⌜ (r ≡ acceptedPlan decoder marks due request kind place value) × (r .chip < 4) ⌝ }
+    ensures { λ r. ⌜ (r ≡ acceptedPlan decoder marks due request kind place value) × (r .chip < most) ⌝ }
 {
     if kind == 1 {
         return plan_fetch(decoder, marks, due, value, request);
@@ -177,12 +173,12 @@ fn plan_accepted(
 pub fn step_reads(
     size: u8,
     decoder: Decoder,
-    marks: [u8; 4],
+    marks: Marks,
     due: bool,
     request: u8,
     event: &[u8],
 ) -> Plan
-    ensures { λ r. ⌜ (r ≡ planOf size decoder marks due request (now (event .entry))) × (r .chip < 4) ⌝ }
+    ensures { λ r. ⌜ (r ≡ planOf size decoder marks due request (now (event .entry))) × (r .chip < most) ⌝ }
 {
     if event.len() != 4 {
         return plan_nothing(decoder, marks, 32, 0, 0, 0);
@@ -199,7 +195,7 @@ pub fn step_reads(
 
 // The first half of a step on any board that was looked over: 32 and 35 come before all else.
 pub fn step_seen(size: u8, decoder: Decoder, seen: Look, event: &[u8]) -> Plan
-    ensures { λ r. ⌜ (r ≡ seenPlan size decoder seen (now (event .entry))) × (r .chip < 4) ⌝ }
+    ensures { λ r. ⌜ (r ≡ seenPlan size decoder seen (now (event .entry))) × (r .chip < most) ⌝ }
 {
     let marks = seen.marks;
     if seen.sound {
@@ -214,7 +210,7 @@ pub fn step_seen(size: u8, decoder: Decoder, seen: Look, event: &[u8]) -> Plan
 
 // The first half of a step on any board: it looks the board over.
 pub fn step_looks(board: Board, event: &[u8]) -> Plan
-    ensures { λ r. ⌜ (r ≡ firstOf board (now (event .entry))) × ((r .chip < 4) × (length (board .chips) ≡ 4)) ⌝ }
+    ensures { λ r. ⌜ (r ≡ firstOf board (now (event .entry))) × ((r .chip < most) × (length (board .chips) ≡ most)) ⌝ }
 {
     let chips = board.chips;
     let decoder = board.decoder;

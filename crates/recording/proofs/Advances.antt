@@ -1,46 +1,26 @@
 -- One record by the step's two halves is the step, and keeps what is known of the board.
 -- Assumes nothing.
 use mathlib.Core.Path.{_≡_, refl, sym, ap, subst, _∙_}
-use mathlib.Core.Bool.{Bool, true, false, not}
+use mathlib.Core.Bool.{true, false}
 use mathlib.Core.List.{List}
 use Prim.Native.Nat.{ℕ}
 use lib.Dec.{ltb}
 use lib.ListN.{length, getD}
-use borrow.Author.Tests.{eq-eqb}
-use Rattle.bits.specs.Bits.{if_then_else_, _is_}
+use Rattle.bits.specs.Bits.{_is_}
 use Rattle.bits.proofs.Logic.{byCases}
 use Rattle.bits.proofs.Tests.{if-on, if-off}
-use Rattle.chain.specs.Decode.{retiOf}
-use Rattle.chain.specs.Marks.{holderOf}
-use Rattle.chain.specs.declared.Decoder.{Decoder}
 use Rattle.board.specs.declared.Board.{Board}
 use Rattle.board.specs.declared.Stepped.{Stepped}
 use Rattle.board.specs.declared.Plan.{Plan}
-use Rattle.board.specs.Step.{kindOf, valueOf, stepOf}
-use Rattle.board.specs.Halves.{earlyAt, fetchPlan, acknowledgePlan, acceptedPlan, planOf, changedOf, sweptOf, blank}
-use Rattle.records.proofs.Kept.{Kept, whole-steps, whole-keeps, idle-steps, idle-keeps, single-steps, single-keeps}
+use Rattle.board.specs.Step.{valueOf, stepOf}
+use Rattle.board.specs.Halves.{planOf, changedOf, sweptOf, blank}
+use Rattle.records.proofs.Kept.{Kept, whole-steps, whole-keeps, idle-steps, idle-asks, idle-keeps, single-steps, single-keeps}
 use Rattle.recording.specs.declared.Stand.{Stand}
 use Rattle.recording.specs.Fast.{swept, touched, kept, advancedOf}
 
 -- the board of a stand
 abbrev pub boardOf : ℕ → Stand → Board
 boardOf size s = record { size = size; chips = s .chips; decoder = s .decoder }
-
--- ---- the plan of four bytes carries the request as it stands
-by-if : (P : Plan → Type 0) (t : Bool) (x y : Plan) → P x → P y → P (if t then x else y)
-unfolding if_then_else_
-by-if P true x y p q = p
-by-if P false x y p q = q
-
-plan-request : (size : ℕ) (d : Decoder) (marks : List ℕ) (due : Bool) (request : ℕ) (e : List ℕ) → length e ≡ 4 → planOf size d marks due request e .request ≡ request
-unfolding planOf acceptedPlan fetchPlan acknowledgePlan
-plan-request size d marks due request e four =
-    let P : Plan → Type 0 = λ w. w .request ≡ request in
-    ap (λ (w : Plan). w .request) (if-off (not (length e is 4)) _ _ (ap not (eq-eqb (length e) 4 four)))
-    ∙ by-if P (not (earlyAt size e is 0)) _ _ refl
-    (by-if P (kindOf e is 1) _ _ (by-if P (not (retiOf d (valueOf e))) _ _ refl (by-if P (holderOf marks is 0) _ _ refl refl))
-    (by-if P (kindOf e is 0) _ _ refl
-    (by-if P (kindOf e is 2) _ _ (by-if P (request is 0) _ _ refl refl) refl)))
 
 -- ---- the three ways of a record
 module _ (size : ℕ) (s : Stand) (k : Kept (boardOf size s) (s .marks) (s .request) (s .due)) (e : List ℕ) (byte : ltb (valueOf e) 256 ≡ true) (four : length e ≡ 4) where
@@ -73,7 +53,7 @@ module _ (size : ℕ) (s : Stand) (k : Kept (boardOf size s) (s .marks) (s .requ
   idle-went : w .whole ≡ false → w .one ≡ false → Went (kept s w)
   idle-went t u =
       went _ (kept s w) (idle-steps b (s .marks) (s .request) (s .due) k e byte w refl t u) refl refl
-      (subst (λ (r : ℕ). Kept (boardOf size (kept s w)) (s .marks) r (s .due)) (sym (plan-request size (s .decoder) (s .marks) (s .due) (s .request) e four)) (idle-keeps b (s .marks) (s .request) (s .due) k e byte w refl))
+      (subst (λ (r : ℕ). Kept (boardOf size (kept s w)) (s .marks) r (s .due)) (sym (idle-asks b (s .marks) (s .request) (s .due) k e byte w refl four)) (idle-keeps b (s .marks) (s .request) (s .due) k e byte w refl))
 
   pub advanced : (after : Stand) → after ≡ advancedOf size s e → Went after
   unfolding advancedOf

@@ -2,12 +2,15 @@
 use board::Board;
 use board::Look;
 use chain::Decoder;
+use chain::MOST;
+use chain::Marks;
 use chip::Chip;
 ghost use mathlib.Core.Path.{_≡_};
 ghost use mathlib.Core.Bool.{true};
 ghost use Prim.Native.Nat.{_+_, _*_, _/_, _%_, _≤_};
 ghost use lib.ListN.{length};
 ghost use Rattle.buffers.specs.Splice.{splice, ifRoom};
+ghost use Rattle.chain.specs.Chain.{most};
 ghost use Rattle.board.specs.Board.{soundBoard};
 ghost use Rattle.board.specs.Halves.{lookOf};
 ghost use Rattle.frames.specs.Frames.{laterFrame};
@@ -47,9 +50,9 @@ fn refusal(sound: bool, events: usize, stamps: usize, text: usize, room: usize) 
 
 // What is kept from record to record beside the board's size: chips and decoder, and what is known of them.
 struct Stand {
-    chips: [Chip; 4],
+    chips: [Chip; MOST],
     decoder: Decoder,
-    marks: [u8; 4],
+    marks: Marks,
     request: u8,
     due: bool,
 }
@@ -121,7 +124,7 @@ fn show(out: &mut [u8], at: usize, time: u64, shown: [u8; 9], values: [u8; 9]) -
 // All the records of a sound board, with a stamp for each. Answers the text's length; the text is written if there is room for it all.
 // In a buffer without room bytes may have changed, so a buffer of none serves to measure.
 fn scan(board: Board, seen: Look, events: &[u8], stamps: &[u8], out: &mut [u8]) -> Scanned
-    requires { ⌜ (seen ≡ lookOf (board .size) (board .chips)) × ((soundBoard board ≡ true) × (length (board .chips) ≡ 4)) ⌝ }
+    requires { ⌜ (seen ≡ lookOf (board .size) (board .chips)) × ((soundBoard board ≡ true) × (length (board .chips) ≡ most)) ⌝ }
     requires { ⌜ (length (now events) % 4 ≡ 0) × ((length (now events) / 4 ≤ 16384) × (length (now stamps) ≡ 2 * (length (now events) / 4))) ⌝ }
     ensures { λ r. ⌜ (r .board ≡ stepsOf board (records (now (events .entry)))) × (r .length ≡ length (waveText board (now (events .entry)) (now (stamps .entry)))) ⌝ }
     ensures { λ _. ⌜ length (now (out .exit)) ≡ length (now (out .entry)) ⌝ }

@@ -1,30 +1,30 @@
 -- The run's short ways: each is a turn of the run, and keeps what the locals keep.
 -- Assumes nothing.
-use mathlib.Core.Path.{_≡_, refl, sym, ap, _∙_}
+use mathlib.Core.Path.{_≡_, refl, ap, _∙_}
 use mathlib.Core.Bool.{Bool, true, false, _&&_, not}
 use mathlib.Core.List.{List, [], _∷_}
 use Prim.Native.Nat.{ℕ, _+_, _*_, _/_, _≤_, _<_}
 use native.Mathlib.Nat.{add-zero}
 use native.Mathlib.Omega.{arith}
 use lib.Dec.{leb, ltb}
-use lib.ListN.{length, take, drop, getD, set, length-take, length-drop}
-use lib.Seq.{getD-take, getD-drop, set-getD}
+use lib.ListN.{length, take, drop, getD, length-take, length-drop}
+use lib.Seq.{getD-take, getD-drop}
 use borrow.Author.Tests.{lt-ltb, le-ltb, ltb-true, leb-true, eqb-true}
 use Rattle.bits.specs.Bits.{if_then_else_, _is_}
 use Rattle.bits.proofs.Logic.{both}
 use Rattle.chip.specs.declared.Chip.{Chip}
 use Rattle.chain.specs.declared.Decoder.{Decoder}
+use Rattle.chain.specs.Chain.{most}
 use Rattle.chain.specs.Decode.{nextOf, retiOf}
 use Rattle.buffers.specs.Splice.{splice}
-use Rattle.chain.specs.Marks.{callerOf}
+use Rattle.chain.specs.Marks.{Marks}
 use Rattle.board.specs.declared.Board.{Board}
 use Rattle.board.specs.declared.Plan.{Plan}
-use Rattle.board.specs.Board.{most, soundBoard}
+use Rattle.board.specs.Board.{soundBoard}
 use Rattle.board.specs.Step.{kindOf, placeOf, valueOf, lastOf}
 use Rattle.board.specs.Halves.{earlyOf, fetchPlan, acceptedPlan, planOf}
 use Rattle.board.proofs.Quick.{parts}
 use Rattle.board.proofs.Ways.{off}
-use Rattle.steps.proofs.Ways.{set-beyond}
 use Rattle.records.specs.Fast.{idlesOf}
 use Rattle.records.proofs.Turns.{Running}
 use Rattle.records.proofs.Kept.{Kept}
@@ -47,13 +47,6 @@ module _ (es : List ℕ) (i : ℕ) where
 -- a sound board has a chip
 size-some : (b : Board) → soundBoard b ≡ true → 1 ≤ b .size
 size-some b s = leb-true 1 (b .size) (both (leb 1 (b .size)) (leb (b .size) most) (parts b s .0) .0)
-
--- ---- the request, where a mark stays as it is
-pub no-chip : (ms : List ℕ) (k m r : ℕ) → length ms ≡ most → most ≤ k → r ≡ callerOf ms → r ≡ callerOf (set ms k m)
-no-chip ms k m r l h e = e ∙ ap callerOf (set-beyond ms k m most l h)
-
-pub same-mark : (ms : List ℕ) (k m r : ℕ) → getD ms k 0 ≡ m → r ≡ callerOf ms → r ≡ callerOf (set ms k m)
-same-mark ms k m r e h = h ∙ ap callerOf (sym (set-getD ms k 0) ∙ ap (set ms k) e)
 
 -- ---- a fetch that changes the decoder alone
 pub none-there : (d : Decoder) (due : Bool) (es : List ℕ) (i : ℕ) → length es / 4 ≤ i → false ≡ idlesOf d due es i
@@ -102,12 +95,12 @@ abbrev passed : Decoder → List ℕ → ℕ → ℕ → Plan
 passed d marks value request =
     record { whole = false; one = false; chip = 0; second = false; kind = 1; code = 0; place = 0; value = value; request = request; marks = marks; decoder = d }
 
-passing-plan : (size : ℕ) (d : Decoder) (marks : List ℕ) (due : Bool) (request : ℕ) (e : List ℕ) → 1 ≤ size → length e ≡ 4 → kindOf e ≡ 1 → placeOf e ≡ 0 → lastOf e ≡ 0
+passing-plan : (size : ℕ) (d : Decoder) (marks : Marks) (due : Bool) (request : ℕ) (e : List ℕ) → 1 ≤ size → length e ≡ 4 → kindOf e ≡ 1 → placeOf e ≡ 0 → lastOf e ≡ 0
     → due ≡ false → retiOf d (valueOf e) ≡ false → passed (nextOf d (valueOf e)) marks (valueOf e) request ≡ planOf size d marks due request e
 unfolding planOf earlyOf acceptedPlan fetchPlan if_then_else_
 passing-plan size d marks due request e s l k p z q r = rw (l, k, p, z, q, r, lt-ltb 0 (size * 2) (omega (arith, s)))
 
-module _ {es old : List ℕ} {start : ℕ} {b₀ : Board} {n : ℕ} {out : List ℕ} {b : Board} {marks : List ℕ} {request : ℕ} {due : Bool} {i : ℕ}
+module _ {es old : List ℕ} {start : ℕ} {b₀ : Board} {n : ℕ} {out : List ℕ} {b : Board} {marks : Marks} {request : ℕ} {due : Bool} {i : ℕ}
     (g : Going es old start b₀ n out b marks request due i) where
   pub passing-turn : (d : Decoder) (out′ : List ℕ) → idlesOf (b .decoder) due es i ≡ true → d ≡ nextOf (b .decoder) (getD es (4 * i + 2) 0)
       → out′ ≡ splice out (4 * (start + i)) (0 ∷ 0 ∷ getD es (4 * i + 2) 0 ∷ request ∷ [])
@@ -120,18 +113,18 @@ module _ {es old : List ℕ} {start : ℕ} {b₀ : Board} {n : ℕ} {out : List 
       idle-turn g (passed d marks (getD es (4 * i + 2) 0) request) (rw (e, part-is es i, ← plan, value)) out′ refl refl o
 
 -- ---- some such fetches in a row: what held of the run before them holds after them
-pub record Passed (es : List ℕ) (start n size : ℕ) (chips : List Chip) (marks : List ℕ) (request : ℕ) (due : Bool) (out₁ : List ℕ) (d₁ : Decoder) (i₁ : ℕ)
+pub record Passed (es : List ℕ) (start n size : ℕ) (chips : List Chip) (marks : Marks) (request : ℕ) (due : Bool) (out₁ : List ℕ) (d₁ : Decoder) (i₁ : ℕ)
     (out₂ : List ℕ) (d₂ : Decoder) (i₂ : ℕ) : Type 0 where
   pub on : i₁ ≤ i₂
   pub after : {old : List ℕ} {b₀ : Board} → 4 * (start + n) ≤ length old
       → Running es old start b₀ n out₁ (record { size = size; chips = chips; decoder = d₁ }) i₁ × Kept (record { size = size; chips = chips; decoder = d₁ }) marks request due
       → Running es old start b₀ n out₂ (record { size = size; chips = chips; decoder = d₂ }) i₂ × Kept (record { size = size; chips = chips; decoder = d₂ }) marks request due
 
-pub none-passed : {es : List ℕ} {start n size : ℕ} {chips : List Chip} {marks : List ℕ} {request : ℕ} {due : Bool} {out : List ℕ} {d : Decoder} {i : ℕ}
+pub none-passed : {es : List ℕ} {start n size : ℕ} {chips : List Chip} {marks : Marks} {request : ℕ} {due : Bool} {out : List ℕ} {d : Decoder} {i : ℕ}
     → Passed es start n size chips marks request due out d i out d i
 none-passed = record { on = omega arith; after = λ room inv. inv }
 
-pub one-passed : {es : List ℕ} {start n size : ℕ} {chips : List Chip} {marks : List ℕ} {request : ℕ} {due : Bool} {out₁ : List ℕ} {d₁ : Decoder} {i₁ : ℕ}
+pub one-passed : {es : List ℕ} {start n size : ℕ} {chips : List Chip} {marks : Marks} {request : ℕ} {due : Bool} {out₁ : List ℕ} {d₁ : Decoder} {i₁ : ℕ}
     {out₂ : List ℕ} {d₂ : Decoder} {i₂ : ℕ} → Passed es start n size chips marks request due out₁ d₁ i₁ out₂ d₂ i₂ → i₂ < n → 4 * n ≤ length es → getD es (4 * i₂ + 2) 0 < 256
     → (d : Decoder) (out′ : List ℕ) → idlesOf d₂ due es i₂ ≡ true → d ≡ nextOf d₂ (getD es (4 * i₂ + 2) 0)
     → out′ ≡ splice out₂ (4 * (start + i₂)) (0 ∷ 0 ∷ getD es (4 * i₂ + 2) 0 ∷ request ∷ [])

@@ -2,107 +2,42 @@
 -- the three ways that a record goes is the step, and keeps all of it.
 -- Assumes nothing.
 use mathlib.Core.Path.{_≡_, refl, sym, ap, ap₂, subst, _∙_}
-use mathlib.Core.Bool.{Bool, true, false, _&&_, _||_, not, false≢true, true≢false}
+use mathlib.Core.Bool.{Bool, true, false, _&&_, _||_, not, true≢false}
 use mathlib.Core.List.{List, [], _∷_, map}
-use Prim.Native.Nat.{ℕ, zero, suc, _+_, _*_, _/_, _%_, _-_, _<_}
-use native.Mathlib.Omega.{arith}
+use Prim.Native.Nat.{ℕ, zero, suc, _-_}
 use lib.Dec.{ltb}
 use lib.ListN.{length, length-map, length-set, getD, set, take}
 use lib.Seq.{take-set-lt, length-front}
-use borrow.Author.Tests.{ltb-true}
 use Rattle.bits.specs.Bits.{if_then_else_, _is_}
 use Rattle.bits.proofs.Logic.{byCases}
 use Rattle.bits.proofs.Tests.{if-on}
 use Rattle.chip.specs.declared.Chip.{Chip}
 use Rattle.chip.specs.Chip as chip
 use Rattle.events.specs.declared.Acted.{Acted}
-use Rattle.chain.specs.Chain.{asker, asks, holder}
-use Rattle.chain.specs.Decode.{retiOf}
-use Rattle.chain.specs.Marks.{markOf, marksOf, callerOf, holderOf}
-use Rattle.chain.proofs.Marks.{caller-is, holder-is, marks-set}
+use Rattle.chain.specs.Chain.{most}
+use Rattle.chain.specs.Marks.{Marks, markedOf, marksOf, callerOf}
+use Rattle.chain.proofs.Marks.{marks-set}
 use Rattle.board.specs.declared.Board.{Board}
 use Rattle.board.specs.declared.Stepped.{Stepped}
 use Rattle.board.specs.declared.Plan.{Plan}
 use Rattle.board.specs.declared.Changed.{Changed}
 use Rattle.board.specs.declared.Swept.{Swept}
-use Rattle.board.specs.Board.{most, there, ports, soundBoard}
-use Rattle.board.specs.Step.{kindOf, placeOf, valueOf, lastOf, stepOf}
-use Rattle.board.specs.Halves.{stirs, earlyAt, fetchPlan, acknowledgePlan, acceptedPlan, planOf, touchedOf, withActed, changedOf, blank, sweepOf, freedOf, sweptOf, wholly, singly, idly, carried}
+use Rattle.board.specs.Board.{there, soundBoard}
+use Rattle.board.specs.Step.{valueOf, stepOf}
+use Rattle.board.specs.Halves.{stirs, planOf, touchedOf, withActed, changedOf, blank, sweepOf, freedOf, sweptOf, wholly, singly, idly, carried}
 use Rattle.board.proofs.There.{take-within}
 use Rattle.board.proofs.Quick.{step-sound}
-use Rattle.board.proofs.Tables.{place-there}
 use Rattle.board.proofs.Ports.{Still}
-use Rattle.board.proofs.Halves.{size-fits, places, halves}
+use Rattle.board.proofs.Halves.{halves}
+use Rattle.board.proofs.Plans.{Planned, planned}
 use Rattle.board.proofs.Steps.{quiet-chip, carried-whole, carried-single, carried-idle}
 
-pub record Kept (b : Board) (marks : List ℕ) (request : ℕ) (due : Bool) : Type 0 where
+pub record Kept (b : Board) (marks : Marks) (request : ℕ) (due : Bool) : Type 0 where
   pub sound : soundBoard b ≡ true
   pub row : length (b .chips) ≡ most
   pub marked : marks ≡ marksOf (b .size) (b .chips)
   pub asked : request ≡ callerOf marks
   pub still : due ≡ false → Still (there b)
-
--- ---- the chip that a plan names is on the board
-by-if : (P : Plan → Type 0) (t : Bool) (x y : Plan) → (t ≡ true → P x) → (t ≡ false → P y) → P (if t then x else y)
-unfolding if_then_else_
-by-if P true x y f g = f refl
-by-if P false x y f g = g refl
-
-choice-found : (t : Bool) (k : ℕ) → ((if t then k else 0) is 0) ≡ false → t ≡ true
-unfolding if_then_else_
-choice-found true k e = refl
-choice-found false k e = absurd (true≢false e)
-
-module _ (b : Board) (s : soundBoard b ≡ true) (len : length (b .chips) ≡ most) (due : Bool) (e : List ℕ) where
-  abbrev marks : List ℕ
-  marks = marksOf (b .size) (b .chips)
-
-  abbrev Fits : Plan → Type 0
-  Fits w = (w .marks ≡ marks) × (w .one ≡ true → w .chip < b .size)
-
-  chip-fits : (place : ℕ) → place < b .size * 2 → place / 2 % most < b .size
-  chip-fits place h = omega (arith, size-fits b s len)
-
-  holder-fits : (holderOf marks is 0) ≡ false → (holderOf marks - 1) / 2 % most < b .size
-  holder-fits z =
-      let t = choice-found (ltb (holder (ports b)) (length (ports b))) (holder (ports b) + 1) (rw (holder-is (b .size) (b .chips)) at z) in
-      chip-fits (holderOf marks - 1) (omega (arith, holder-is (b .size) (b .chips) ∙ if-on _ _ _ t, ltb-true (holder (ports b)) (length (ports b)) t, places b s len))
-
-  caller-fits : (callerOf marks is 0) ≡ false → (callerOf marks - 1) / 2 % most < b .size
-  caller-fits z =
-      let t = choice-found (asks (ports b)) (asker (ports b) + 1) (rw (caller-is (b .size) (b .chips)) at z) in
-      chip-fits (callerOf marks - 1) (omega (arith, caller-is (b .size) (b .chips) ∙ if-on _ _ _ t, ltb-true (asker (ports b)) (length (ports b)) t, places b s len))
-
-  no-one : false ≡ true → {n : ℕ} → n < b .size
-  no-one h = absurd (false≢true h)
-
-  fetch-fits : (v : ℕ) → Fits (fetchPlan (b .decoder) marks due v (callerOf marks))
-  unfolding fetchPlan
-  fetch-fits v =
-      by-if Fits (not (retiOf (b .decoder) v)) _ _ (λ t. (refl, λ h. no-one h)) (λ t.
-      by-if Fits (holderOf marks is 0) _ _ (λ z. (refl, λ h. no-one h)) (λ z. (refl, λ h. holder-fits z)))
-
-  acknowledge-fits : Fits (acknowledgePlan marks (callerOf marks))
-  unfolding acknowledgePlan
-  acknowledge-fits = by-if Fits (callerOf marks is 0) _ _ (λ z. (refl, λ h. no-one h)) (λ z. (refl, λ h. caller-fits z))
-
-  accepted-fits : (kind place v : ℕ) → place < b .size * 2 → Fits (acceptedPlan (b .decoder) marks due (callerOf marks) kind place v)
-  unfolding acceptedPlan
-  accepted-fits kind place v l =
-      by-if Fits (kind is 1) _ _ (λ t. fetch-fits v) (λ t.
-      by-if Fits (kind is 0) _ _ (λ z. (refl, λ h. no-one h)) (λ z.
-      by-if Fits (kind is 2) _ _ (λ z. acknowledge-fits) (λ z. (refl, λ h. chip-fits place l))))
-
-  turned : (t : Bool) → not t ≡ false → t ≡ true
-  turned true n = refl
-  turned false n = sym n
-
-  plan-fits : Fits (planOf (b .size) (b .decoder) marks due (callerOf marks) e)
-  unfolding planOf
-  plan-fits =
-      by-if Fits (not (length e is 4)) _ _ (λ t. (refl, λ h. no-one h)) (λ t.
-      by-if Fits (not (earlyAt (b .size) e is 0)) _ _ (λ z. (refl, λ h. no-one h)) (λ z.
-      accepted-fits (kindOf e) (placeOf e) (valueOf e) (place-there (b .size) (kindOf e) (placeOf e) (valueOf e) (lastOf e) (turned (earlyAt (b .size) e is 0) z))))
 
 -- ---- what the second half leaves, whatever the plan
 -- a fetch changes nothing of a chip that was just reset or fetched
@@ -140,10 +75,10 @@ neither true y e = absurd (true≢false e)
 neither false y e = (refl, e)
 
 -- ---- the three ways of a record
-module _ (b : Board) (marks : List ℕ) (request : ℕ) (due : Bool) (k : Kept b marks request due) (e : List ℕ) (byte : ltb (valueOf e) 256 ≡ true)
+module _ (b : Board) (marks : Marks) (request : ℕ) (due : Bool) (k : Kept b marks request due) (e : List ℕ) (byte : ltb (valueOf e) 256 ≡ true)
     (w : Plan) (i : w ≡ planOf (b .size) (b .decoder) marks due request e) where
   plan-is : w ≡ planOf (b .size) (b .decoder) (marksOf (b .size) (b .chips)) due (callerOf (marksOf (b .size) (b .chips))) e
-  plan-is = i ∙ ap₂ (λ (m : List ℕ) (r : ℕ). planOf (b .size) (b .decoder) m due r e) (k .marked) (k .asked ∙ ap callerOf (k .marked))
+  plan-is = i ∙ ap₂ (λ (m : Marks) (r : ℕ). planOf (b .size) (b .decoder) m due r e) (k .marked) (k .asked ∙ ap callerOf (k .marked))
 
   steps : carried b w ≡ stepOf b e
   steps = ap (carried b) plan-is ∙ halves b (k .sound) (k .row) due (k .still) e
@@ -174,6 +109,13 @@ module _ (b : Board) (marks : List ℕ) (request : ℕ) (due : Bool) (k : Kept b
   pub idle-steps : w .whole ≡ false → w .one ≡ false → idly b w ≡ stepOf b e
   idle-steps t u = carried-idle b w t u ∙ steps
 
+  fits : Planned b (k .sound) (k .row) due e w
+  fits = rw plan-is (planned b (k .sound) (k .row) due e)
+
+  -- the request of four bytes is that which was known
+  pub idle-asks : length e ≡ 4 → w .request ≡ request
+  idle-asks l = fits .asked l ∙ sym (k .asked ∙ ap callerOf (k .marked))
+
   pub idle-keeps : Kept (idly b w .board) marks request due
   unfolding soundBoard
   idle-keeps = record { sound = k .sound; row = k .row; marked = k .marked; asked = k .asked; still = k .still }
@@ -181,17 +123,14 @@ module _ (b : Board) (marks : List ℕ) (request : ℕ) (due : Bool) (k : Kept b
   pub single-steps : (r : Changed) → w .whole ≡ false → r ≡ changedOf (getD (b .chips) (w .chip) blank) w → singly b w r ≡ stepOf b e
   single-steps r t h = ap (singly b w) h ∙ carried-single b w t ∙ steps
 
-  fits : (w .marks ≡ marksOf (b .size) (b .chips)) × (w .one ≡ true → w .chip < b .size)
-  fits = rw plan-is (plan-fits b (k .sound) (k .row) due e)
-
   acted-keeps : (a : Acted) → w .whole ≡ false → w .one ≡ true → withActed w a ≡ changedOf (getD (b .chips) (w .chip) blank) w
       → Kept (singly b w (withActed w a) .board) (withActed w a .marks) (withActed w a .answer .request) (due || withActed w a .due)
   acted-keeps a t u h =
-      let l = fits .1 u in
+      let l = fits .there u in
       record {
         sound = stays-sound (singly b w (withActed w a)) (single-steps (withActed w a) t h);
         row = length-set (b .chips) (w .chip) (a .chip) ∙ k .row;
-        marked = ap (λ (m : List ℕ). set m (w .chip) (markOf (a .chip))) (fits .0) ∙ sym (marks-set (b .size) (b .chips) (w .chip) (a .chip) l);
+        marked = ap (λ (m : Marks). markedOf m (w .chip) (a .chip)) (fits .marked) ∙ sym (marks-set (b .size) (b .chips) (w .chip) (a .chip) l);
         asked = refl;
         still = λ z. let n = neither due (stirs (a .chip)) z in
             rw (take-set-lt (b .size) (b .chips) (w .chip) (a .chip) l) (set-still (there b) (w .chip) (a .chip) (k .still (n .0)) (quiet-chip (a .chip) (n .1)));

@@ -21,12 +21,12 @@ use Rattle.events.specs.Events.{write, strobe, outside, changed}
 use Rattle.events.specs.Act.{eventOf, step, actOf}
 use Rattle.events.proofs.Ways.{acted, act-write, act-strobe, act-outside}
 use Rattle.chain.specs.declared.Decoder.{Decoder}
-use Rattle.chain.specs.Chain.{sideOf}
-use Rattle.chain.specs.Marks.{markOf, callerOf}
+use Rattle.chain.specs.Chain.{most, sideOf}
+use Rattle.chain.specs.Marks.{Marks, markedOf, callerOf}
 use Rattle.buffers.specs.Splice.{splice}
 use Rattle.board.specs.declared.Board.{Board}
 use Rattle.board.specs.declared.Plan.{Plan}
-use Rattle.board.specs.Board.{most, there, soundAll, soundBoard}
+use Rattle.board.specs.Board.{there, soundAll, soundBoard}
 use Rattle.board.specs.Step.{kindOf, placeOf, valueOf}
 use Rattle.board.specs.Halves.{stirs, earlyOf, earlyAt, single, acceptedPlan, planOf, withActed, changedOf, blank}
 use Rattle.board.proofs.Quick.{parts}
@@ -50,7 +50,7 @@ chip-sound b k s row h =
     (sound-at (there b) k (parts b s .1) (omega (arith, h, length-take (b .size) (b .chips), row, size-fits b s row)))
 
 -- ---- an event of kinds 3 to 7 that no early refusal stops
-placed-plan : (size : ℕ) (d : Decoder) (marks : List ℕ) (due : Bool) (request : ℕ) (e : List ℕ) → length e ≡ 4 → 3 ≤ kindOf e → earlyAt size e ≡ 0
+placed-plan : (size : ℕ) (d : Decoder) (marks : Marks) (due : Bool) (request : ℕ) (e : List ℕ) → length e ≡ 4 → 3 ≤ kindOf e → earlyAt size e ≡ 0
     → single d marks (kindOf e) 0 (placeOf e) (valueOf e) request ≡ planOf size d marks due request e
 unfolding planOf acceptedPlan if_then_else_
 placed-plan size d marks due request e l lo z =
@@ -120,7 +120,7 @@ module _ {es : List ℕ} {i : ℕ} {old new : List Chip} {code shown : ℕ} (d :
     told = y;
   }
 
-module _ {es old : List ℕ} {start : ℕ} {b₀ : Board} {n : ℕ} {out : List ℕ} {b : Board} {marks : List ℕ} {request : ℕ} {due : Bool} {i : ℕ}
+module _ {es old : List ℕ} {start : ℕ} {b₀ : Board} {n : ℕ} {out : List ℕ} {b : Board} {marks : Marks} {request : ℕ} {due : Bool} {i : ℕ}
     (g : Going es old start b₀ n out b marks request due i) (lo : 3 ≤ kind es i) (z : earlyOf (b .size) (kind es i) (place es i) (value es i) (last es i) ≡ 0) where
   fits : k es i < b .size
   fits =
@@ -150,16 +150,16 @@ module _ {es old : List ℕ} {start : ℕ} {b₀ : Board} {n : ℕ} {out : List 
   changes a e =
       ap (withActed w) (touch-act (chip-at es i (b .chips)) w a (λ m. omega (arith, m, lo)) (λ m. omega (arith, m, lo)) e) ∙ sym (if-on true (withActed w _) _ refl)
 
-  pub act-turn : {new : List Chip} {code shown : ℕ} (a : Acts es i (b .chips) new code shown) (m q : ℕ) (y : Bool) (out′ : List ℕ) → m ≡ markOf (chip-at es i new)
-      → (request ≡ callerOf marks → q ≡ callerOf (set marks (k es i) m)) → y ≡ stirs (chip-at es i new)
+  pub act-turn : {new : List Chip} {code shown : ℕ} (a : Acts es i (b .chips) new code shown) (ms : Marks) (q : ℕ) (y : Bool) (out′ : List ℕ) → ms ≡ markedOf marks (k es i) (chip-at es i new)
+      → (request ≡ callerOf marks → q ≡ callerOf (markedOf marks (k es i) (chip-at es i new))) → y ≡ stirs (chip-at es i new)
       → out′ ≡ splice out (4 * (start + i)) (code ∷ place es i ∷ shown ∷ q ∷ [])
       → Running es old start b₀ n out′ (record { size = b .size; chips = new; decoder = b .decoder }) (i + 1)
-      × Kept (record { size = b .size; chips = new; decoder = b .decoder }) (set marks (k es i) m) q (due || y)
-  act-turn {new} {code} {shown} a m q y out′ u r l o =
+      × Kept (record { size = b .size; chips = new; decoder = b .decoder }) ms q (due || y)
+  act-turn {new} {code} {shown} a ms q y out′ u r l o =
       let d = a .done in
       let e = ap (λ (cs : List Chip). getD cs (k es i) blank) (a .row) ∙ getD-set-same (b .chips) (k es i) (d .chip) blank in-row in
-      let v = u ∙ ap markOf e in
-      let s = r (g .kept .asked) ∙ ap (λ (x : ℕ). callerOf (set marks (k es i) x)) v in
+      let v = u ∙ ap (markedOf marks (k es i)) e in
+      let s = r (g .kept .asked) ∙ ap (λ (x : Chip). callerOf (markedOf marks (k es i) x)) e in
       rw (l, e, s, v, a .row)
       (single-turn g w planned (withActed w d) out′ refl refl (changes d (a .event (chip-sound b (k es i) (g .kept .sound) (g .kept .row) fits)))
       (rw (← a .coded, ← a .told, ← s) o))

@@ -11,14 +11,15 @@ use lib.ListN.{length, take, drop, getD}
 use lib.Seq.{getD-take, getD-drop}
 use borrow.Author.Tests.{lt-ltb}
 use Rattle.buffers.specs.Splice.{splice}
-use Rattle.chain.specs.Marks.{callerOf}
+use Rattle.chain.specs.Chain.{most}
+use Rattle.chain.specs.Marks.{Marks, callerOf}
 use Rattle.board.specs.declared.Board.{Board}
 use Rattle.board.specs.declared.Answer.{Answer}
 use Rattle.board.specs.declared.Look.{Look}
 use Rattle.board.specs.declared.Plan.{Plan}
 use Rattle.board.specs.declared.Changed.{Changed}
 use Rattle.board.specs.declared.Swept.{Swept}
-use Rattle.board.specs.Board.{most, there, soundBoard}
+use Rattle.board.specs.Board.{there, soundBoard}
 use Rattle.board.specs.Step.{valueOf}
 use Rattle.board.specs.Halves.{lookOf, planOf, changedOf, blank, sweptOf, wholly, singly, idly}
 use Rattle.board.proofs.Ways.{off, on}
@@ -50,7 +51,7 @@ abbrev four : Answer → List ℕ
 four a = a .code ∷ a .place ∷ a .value ∷ a .request ∷ []
 
 -- ---- before record i: it is there, and there is room for its answer
-pub record Going (es old : List ℕ) (start : ℕ) (b₀ : Board) (n : ℕ) (out : List ℕ) (b : Board) (marks : List ℕ) (request : ℕ) (due : Bool) (i : ℕ) : Type 0 where
+pub record Going (es old : List ℕ) (start : ℕ) (b₀ : Board) (n : ℕ) (out : List ℕ) (b : Board) (marks : Marks) (request : ℕ) (due : Bool) (i : ℕ) : Type 0 where
   pub running : Running es old start b₀ n out b i
   pub kept : Kept b marks request due
   pub more : i < n
@@ -58,7 +59,7 @@ pub record Going (es old : List ℕ) (start : ℕ) (b₀ : Board) (n : ℕ) (out
   pub room : 4 * (start + n) ≤ length old
   pub byte : getD es (4 * i + 2) 0 < 256
 
-module _ {es old : List ℕ} {start : ℕ} {b₀ : Board} {n : ℕ} {out : List ℕ} {b : Board} {marks : List ℕ} {request : ℕ} {due : Bool} {i : ℕ}
+module _ {es old : List ℕ} {start : ℕ} {b₀ : Board} {n : ℕ} {out : List ℕ} {b : Board} {marks : Marks} {request : ℕ} {due : Bool} {i : ℕ}
     (g : Going es old start b₀ n out b marks request due i) (w : Plan)
     (iw : w ≡ planOf (b .size) (b .decoder) marks due request (take (4 * i + 4 - 4 * i) (drop (4 * i) es))) where
   abbrev event : List ℕ

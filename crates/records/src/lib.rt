@@ -2,12 +2,13 @@
 // locals: an event that concerns one chip changes that chip where it lies, and a fetch that changes nothing touches no chip at all.
 use board::Board;
 use chain::Decoder;
+use chain::MOST;
 ghost use mathlib.Core.Path.{_≡_};
 ghost use mathlib.Core.Bool.{true};
 ghost use Prim.Native.Nat.{_+_, _*_, _/_, _%_, _≤_};
-ghost use lib.ListN.{length, set};
+ghost use lib.ListN.{length};
 ghost use Rattle.buffers.specs.Splice.{splice};
-ghost use Rattle.chain.specs.Marks.{callerOf};
+ghost use Rattle.chain.specs.Chain.{most};
 ghost use Rattle.board.specs.Board.{soundBoard};
 ghost use Rattle.board.specs.Halves.{lookOf};
 ghost use Rattle.records.specs.Records.{records, stepsOf, answersOf};
@@ -25,21 +26,6 @@ fn idles(events: &[u8], i: usize, decoder: Decoder, due: bool) -> bool
     (events[at] == 1) & (events[at + 1] == 0) & (events[at + 3] == 0) & !due & !decoder.reti(value)
 }
 
-// The request after the chip `k` has the mark `mark`.
-fn renewed(marks: [u8; 4], k: usize, mark: u8, request: u8) -> u8
-    ensures { λ r. ⌜ (request ≡ callerOf marks → r ≡ callerOf (set marks k mark)) ⌝ }
-{
-    if k >= 4 {
-        return request;
-    }
-    if marks[k] == mark {
-        return request;
-    }
-    let mut next = marks;
-    next[k] = mark;
-    chain::caller(next)
-}
-
 // All the records, on a sound board with room for their answers; `seen` is a look at the board.
 pub fn run_records(
     board: Board,
@@ -48,7 +34,7 @@ pub fn run_records(
     answers: &mut [u8],
     start: usize,
 ) -> Board
-    requires { ⌜ (seen ≡ lookOf (board .size) (board .chips)) × ((soundBoard board ≡ true) × (length (board .chips) ≡ 4)) ⌝ }
+    requires { ⌜ (seen ≡ lookOf (board .size) (board .chips)) × ((soundBoard board ≡ true) × (length (board .chips) ≡ most)) ⌝ }
     requires { ⌜ (length (now events) % 4 ≡ 0) × (start + length (now events) / 4 ≤ length (now answers) / 4) ⌝ }
     ensures { λ r. ⌜ r ≡ stepsOf board (records (now (events .entry))) ⌝ }
     ensures { λ _. ⌜ now (answers .exit) ≡ splice (now (answers .entry)) (4 * start) (answersOf board (records (now (events .entry)))) ⌝ }
@@ -84,7 +70,7 @@ pub fn run_records(
         // An event of kinds 3 to 7 that no early refusal stops: each kind changes its chip where it lies.
         if kind >= 3 {
             if plans::early_refusal(size, kind, place, value, last) == 0 {
-                let k = (place / 2 % 4) as usize;
+                let k = place as usize / 2 % MOST;
                 let on_b = place % 2 == 1;
                 let mut code: u8 = 0;
                 let mut shown = value;
@@ -131,9 +117,9 @@ pub fn run_records(
                     }
                 }
                 let d = chips[k];
-                let m = chain::mark(d);
-                request = renewed(marks, k, m, request);
-                marks[k] = m;
+                request = chain::renewed(marks, k, d, request);
+                let more = chain::marked(marks, k, d);
+                marks = more;
                 due = due | board::stirred(d);
                 buffers::put_record(&mut answers[to..], code, place, shown, request);
                 continue;

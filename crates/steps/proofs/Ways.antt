@@ -1,11 +1,9 @@
 -- What each way out of the second half gives, of any values.
 -- Assumes nothing.
-use mathlib.Core.Path.{_≡_, refl, sym, ap, _∙_}
+use mathlib.Core.Path.{_≡_, sym, ap, _∙_}
 use mathlib.Core.Bool.{Bool, true, false, not}
-use mathlib.Core.List.{List, [], _∷_, map}
-use Prim.Native.Nat.{ℕ, zero, suc, _≤_}
-use native.Mathlib.Nat.{le-of-suc-le-suc}
-use native.Mathlib.Omega.{arith}
+use mathlib.Core.List.{List, map}
+use Prim.Native.Nat.{ℕ, _≤_}
 use lib.ListN.{length, getD, set}
 use borrow.Author.Tests.{eq-eqb, ne-eqb}
 use Rattle.bits.specs.Bits.{_is_}
@@ -16,7 +14,8 @@ use Rattle.chip.specs.Chip.{side, port, serve, release, settle}
 use Rattle.chip.specs.Chip as chip
 use Rattle.events.specs.declared.Acted.{Acted}
 use Rattle.events.specs.Act.{eventOf, actOf}
-use Rattle.chain.specs.Marks.{markOf, marksOf, callerOf}
+use Rattle.chain.specs.Marks.{Marks, markedOf, marksOf, callerOf}
+use Rattle.chain.proofs.Places.{set-beyond}
 use Rattle.board.specs.declared.Plan.{Plan}
 use Rattle.board.specs.declared.Changed.{Changed}
 use Rattle.board.specs.declared.Swept.{Swept}
@@ -24,13 +23,6 @@ use Rattle.board.specs.Board.{within}
 use Rattle.board.specs.Step.{answer}
 use Rattle.board.specs.Halves.{stirs, touchedOf, withActed, changedOf, blank, sweepOf, freedOf, withSwept, sweptOf}
 use Rattle.board.proofs.Ways.{off, on}
-
--- beyond the end nothing is set
-pub set-beyond : {A : Type 0} (l : List A) (k : ℕ) (x : A) (m : ℕ) → length l ≡ m → m ≤ k → l ≡ set l k x
-set-beyond [] k x m e h = refl
-set-beyond (y ∷ l) zero x m e h = absurd (omega (arith, e))
-set-beyond {A} (y ∷ l) (suc k) x zero e h = absurd (omega (arith, e))
-set-beyond {A} (y ∷ l) (suc k) x (suc m) e h = ap (λ (r : List A). y ∷ r) (set-beyond l k x m (omega (arith, e)) (le-of-suc-le-suc h))
 
 -- ---- one chip
 abbrev made : Chip → ℕ → ℕ → Acted
@@ -54,7 +46,7 @@ pub touch-act :
 unfolding touchedOf
 touch-act c w r n m h = h ∙ sym (if-off (w .kind is 2) _ _ (ne-eqb (w .kind) 2 m)) ∙ sym (if-off (w .kind is 1) _ _ (ne-eqb (w .kind) 1 n))
 
-abbrev after : Chip → List ℕ → Bool → ℕ → ℕ → ℕ → ℕ → Changed
+abbrev after : Chip → Marks → Bool → ℕ → ℕ → ℕ → ℕ → Changed
 after c ms due code place value request = record { chip = c; marks = ms; due = due; answer = answer code place value request }
 
 pub chip-stays : (c : Chip) (w : Plan) (s : Bool) → not (w .one) ≡ true → s ≡ stirs c → after c (w .marks) s (w .code) (w .place) (w .value) (w .request) ≡ changedOf c w
@@ -62,13 +54,13 @@ unfolding changedOf
 chip-stays c w s e h = ap (λ (x : Bool). after c (w .marks) x (w .code) (w .place) (w .value) (w .request)) h ∙ sym (if-off (w .one) _ _ (off (w .one) e))
 
 pub chip-changes :
-    (c : Chip) (w : Plan) (r : Acted) (s : Bool) (m q : ℕ) (ms : List ℕ) → not (w .one) ≡ false → r ≡ touchedOf c w → m ≡ markOf (r .chip)
-    → ms ≡ set (w .marks) (w .chip) m → s ≡ stirs (r .chip) → q ≡ callerOf ms → after (r .chip) ms s (r .code) (w .place) (r .value) q ≡ changedOf c w
+    (c : Chip) (w : Plan) (r : Acted) (s : Bool) (q : ℕ) (ms : Marks) → not (w .one) ≡ false → r ≡ touchedOf c w
+    → ms ≡ markedOf (w .marks) (w .chip) (r .chip) → s ≡ stirs (r .chip) → q ≡ callerOf ms → after (r .chip) ms s (r .code) (w .place) (r .value) q ≡ changedOf c w
 unfolding changedOf
-chip-changes c w r s m q ms e i j k l n =
+chip-changes c w r s q ms e i k l n =
     ap (λ (x : ℕ). after (r .chip) ms s (r .code) (w .place) (r .value) x) n
     ∙ ap (λ (x : Bool). after (r .chip) ms x (r .code) (w .place) (r .value) (callerOf ms)) l
-    ∙ ap (λ (x : List ℕ). after (r .chip) x (stirs (r .chip)) (r .code) (w .place) (r .value) (callerOf x)) (k ∙ ap (set (w .marks) (w .chip)) j)
+    ∙ ap (λ (x : Marks). after (r .chip) x (stirs (r .chip)) (r .code) (w .place) (r .value) (callerOf x)) k
     ∙ ap (withActed w) i ∙ sym (if-on (w .one) _ _ (on (w .one) e))
 
 -- ---- every chip
@@ -88,11 +80,11 @@ pub free-one : (cs : List Chip) (w : Plan) (d : Chip) → not (w .one) ≡ false
 free-one cs w d e h = ap (set cs (w .chip)) h ∙ sym (if-on (w .one) _ _ (on (w .one) e))
 
 pub swept-is :
-    (n q : ℕ) (old cs next : List Chip) (ms : List ℕ) (w : Plan) → old ≡ freedOf cs w
-    → (next ≡ within n (map (sweepOf (w .kind))) old) × (ms ≡ marksOf n (within n (map (sweepOf (w .kind))) old)) → q ≡ callerOf ms
+    (n q : ℕ) (old cs next : List Chip) (ms : Marks) (w : Plan) → old ≡ freedOf cs w
+    → (next ≡ within n (map (sweepOf (w .kind))) old) × (ms ≡ marksOf n next) → q ≡ callerOf ms
     → _≡_ {A = Swept} (record { chips = next; marks = ms; answer = answer 0 0 (w .value) q }) (sweptOf n cs w)
 unfolding sweptOf
 swept-is n q old cs next ms w e h s =
     ap (λ (x : ℕ). record { chips = next; marks = ms; answer = answer 0 0 (w .value) x }) s
-    ∙ ap (λ (x : List ℕ). record { chips = next; marks = x; answer = answer 0 0 (w .value) (callerOf x) }) (h .1 ∙ ap (marksOf n) (sym (h .0)))
+    ∙ ap (λ (x : Marks). record { chips = next; marks = x; answer = answer 0 0 (w .value) (callerOf x) }) (h .1)
     ∙ ap (λ (x : List Chip). withSwept n x w) (h .0 ∙ ap (within n (map (sweepOf (w .kind)))) e)

@@ -6,9 +6,9 @@ use board::Changed;
 use board::Plan;
 use board::Stepped;
 use board::Swept;
+use chain::MOST;
 use chip::Chip;
 ghost use mathlib.Core.Path.{_≡_};
-ghost use lib.ListN.{set};
 ghost use Rattle.board.specs.Step.{stepOf};
 ghost use Rattle.board.specs.Halves.{touchedOf, changedOf, sweepOf, freedOf, sweptOf};
 
@@ -36,18 +36,6 @@ fn touch(c: Chip, w: Plan) -> events::Acted
     events::act(c, w.second, w.kind, w.value)
 }
 
-// The marks with one of them set.
-fn marked(marks: [u8; 4], k: usize, m: u8) -> [u8; 4]
-    ensures { λ r. ⌜ r ≡ set marks k m ⌝ }
-{
-    if k >= 4 {
-        return marks;
-    }
-    let mut next = marks;
-    next[k] = m;
-    next
-}
-
 // The second half of a step that concerns one chip: that chip after it, and the answer.
 pub fn step_chip(c: Chip, w: Plan) -> Changed
     ensures { λ r. ⌜ r ≡ changedOf c w ⌝ }
@@ -68,7 +56,7 @@ pub fn step_chip(c: Chip, w: Plan) -> Changed
     }
     let r = touch(c, w);
     let d = r.chip;
-    let marks = marked(old, w.chip, chain::mark(d));
+    let marks = chain::marked(old, w.chip, d);
     Changed {
         chip: d,
         marks: marks,
@@ -93,14 +81,14 @@ fn sweep(kind: u8, c: Chip) -> Chip
 }
 
 // The chips after the release that a RETI asks.
-fn freed(chips: [Chip; 4], w: Plan) -> [Chip; 4]
+fn freed(chips: [Chip; MOST], w: Plan) -> [Chip; MOST]
     ensures { λ r. ⌜ r ≡ freedOf chips w ⌝ }
 {
     if !w.one {
         return chips;
     }
     let k = w.chip;
-    if k >= 4 {
+    if k >= MOST {
         return chips;
     }
     let c = chips[k];
@@ -111,19 +99,20 @@ fn freed(chips: [Chip; 4], w: Plan) -> [Chip; 4]
 }
 
 // The second half of a step that concerns every chip: the chips after it, and the answer.
-pub fn step_chips(size: u8, chips: [Chip; 4], w: Plan) -> Swept
+pub fn step_chips(size: u8, chips: [Chip; MOST], w: Plan) -> Swept
     ensures { λ r. ⌜ r ≡ sweptOf size chips w ⌝ }
 {
     let old = freed(chips, w);
     let n = size as usize;
     let mut next = old;
-    let mut marks = [0; 4];
+    let mut marks = chain::unmarked();
     let mut i: usize = 0;
-    while (i < 4) & (i < n) {
+    while (i < MOST) & (i < n) {
         let c = old[i];
         let d = sweep(w.kind, c);
         next[i] = d;
-        marks[i] = chain::mark(d);
+        let more = chain::marked(marks, i, d);
+        marks = more;
         i += 1;
     }
     Swept {

@@ -10,28 +10,29 @@ use borrow.Author.Needs.{needs}
 use Rattle.bits.specs.Bits.{if_then_else_}
 use Rattle.chip.specs.declared.Chip.{Chip}
 use Rattle.chip.specs.Chip.{freshChip}
+use Rattle.chain.specs.Chain.{most}
 use Rattle.chain.specs.Decode.{shut}
 use Rattle.board.specs.declared.Made.{Made}
 use Rattle.board.specs.Board.{sizeOk, freshOf}
 use Rattle.board.proofs.fresh.Statement.{statement}
 use Rattle.board.proofs.fresh.Tie as tie
 
-refused : (n : ℕ) (c : Chip) → c ≡ freshChip → sizeOk n ≡ false → _≡_ {A = Made} (record { code = 33; board = record { size = 0; chips = replicate 4 c; decoder = shut } }) (freshOf n)
+refused : (n : ℕ) (c : Chip) → c ≡ freshChip → sizeOk n ≡ false → _≡_ {A = Made} (record { code = 33; board = record { size = 0; chips = replicate most c; decoder = shut } }) (freshOf n)
 unfolding freshOf if_then_else_
 refused n c e h = rw (e, h)
 
-given : (n : ℕ) (c : Chip) → c ≡ freshChip → sizeOk n ≡ true → _≡_ {A = Made} (record { code = 0; board = record { size = n; chips = replicate 4 c; decoder = shut } }) (freshOf n)
+given : (n : ℕ) (c : Chip) → c ≡ freshChip → sizeOk n ≡ true → _≡_ {A = Made} (record { code = 0; board = record { size = n; chips = replicate most c; decoder = shut } }) (freshOf n)
 unfolding freshOf if_then_else_
 given n c e h = rw (e, h)
 
 none : (n : ℕ) → n ≡ 0 → sizeOk n ≡ false
 none n e = rw e
 
-many : (n : ℕ) → 4 < n → sizeOk n ≡ false
-many n h = rw (le-leb 1 n (omega arith), lt-leb n 4 h)
+many : (n : ℕ) → most < n → sizeOk n ≡ false
+many n h = rw (le-leb 1 n (omega arith), lt-leb n most h)
 
-some : (n : ℕ) → (n ≡ 0 → ⊥) → n ≤ 4 → sizeOk n ≡ true
-some n z h = rw (le-leb 1 n (omega arith), le-leb n 4 h)
+some : (n : ℕ) → (n ≡ 0 → ⊥) → n ≤ most → sizeOk n ≡ true
+some n z h = rw (le-leb 1 n (omega arith), le-leb n most h)
 
 returns : tie.Need-returns
 returns c = search (refused, none)

@@ -3,16 +3,17 @@
 use Prim.Native.Nat.{_-_, _≤_}
 use native.Mathlib.Omega.{arith}
 use borrow.Author.Needs.{needs}
+use Rattle.chain.specs.Chain.{most}
 use Rattle.chain.specs.Marks.{holderOf}
 use Rattle.chain.proofs.Scans.{Searching, begins, holder-past, holder-here, holder-ends}
 use Rattle.chain.proofs.holder.Statement.{statement}
 use Rattle.chain.proofs.holder.Tie as tie
 
 abbrev Inv-loop : tie.InvT-loop
-Inv-loop marks i₀ i = Searching holderOf marks i × (i ≤ 4)
+Inv-loop marks i₀ i = Searching holderOf marks i × (i ≤ most)
 
 abbrev μ-loop : tie.MeasureT-loop
-μ-loop marks i₀ i = 4 - i
+μ-loop marks i₀ i = most - i
 
 loop-holds : tie.Need-loop-holds Inv-loop μ-loop
 loop-holds c = (begins holderOf _, search needs)

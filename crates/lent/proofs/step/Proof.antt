@@ -55,6 +55,7 @@ use Rattle.board.specs.Halves.{lookOf, seenPlan, firstOf, changedOf, sweptOf, b
 use Rattle.board.proofs.Steps.{step-whole, step-single}
 use Rattle.chip.proofs.Chip as P
 use Rattle.chip.proofs.Chip.Laws as P′
+use Rattle.chain.specs.Chain.{most}
 use Rattle.chain.proofs.Decoder as D
 use Rattle.chain.proofs.Decoder.Laws as D′
 use Rattle.board.proofs.Board as T
@@ -137,10 +138,10 @@ module _ {M : Type 1} (𝓤 : URA M) (H : Heap 𝓤) (A : Atoms 𝓤) (W : Given
 
   -- what `look_over` and `step_seen` ensure, and the chip that a plan names
   abbrev Seen : Look → Type 0
-  Seen v = (v ≡ lookOf (h .size) (h .chips)) × (length (h .chips) ≡ 4)
+  Seen v = (v ≡ lookOf (h .size) (h .chips)) × (length (h .chips) ≡ most)
 
   abbrev Planned : Look → Plan → Type 0
-  Planned v w = (w ≡ seenPlan (h .size) (h .decoder) v (now e)) × (w .chip < 4)
+  Planned v w = (w ≡ seenPlan (h .size) (h .decoder) v (now e)) × (w .chip < most)
 
   abbrev named-chip : Plan → Chip
   named-chip w = getD (h .chips) (w .chip) blank

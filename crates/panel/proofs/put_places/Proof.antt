@@ -4,16 +4,17 @@ use Prim.Native.Nat.{_-_}
 use native.Mathlib.Omega.{arith}
 use lib.ListN.{length}
 use borrow.Author.Needs.{needs}
+use Rattle.chain.specs.Chain.{most}
 use Rattle.board.proofs.Loops.{in-list}
 use Rattle.panel.proofs.Places.{Before, begin, turn, done}
 use Rattle.panel.proofs.put_places.Statement.{statement}
 use Rattle.panel.proofs.put_places.Tie as tie
 
 abbrev Inv-loop : tie.InvT-loop
-Inv-loop out₀ at board chips n next₀ i₀ out next i = Before board chips out₀ at out next i × (length chips ≡ 4)
+Inv-loop out₀ at board chips n next₀ i₀ out next i = Before board chips out₀ at out next i × (length chips ≡ most)
 
 abbrev μ-loop : tie.MeasureT-loop
-μ-loop out₀ at board chips n next₀ i₀ out next i = 4 - i
+μ-loop out₀ at board chips n next₀ i₀ out next i = most - i
 
 loop-again : tie.Need-loop-again Inv-loop μ-loop
 loop-again c =
@@ -44,7 +45,7 @@ put-places-spec =
     (λ c κs. tt)
     (λ c. search (needs, in-list))
     (λ c.
-    omega (arith, in-list (c .before .before .before .before .before .before .before .before .before .before .loop .i) 4 _ (c .before .before .before .before .before .before .before .before .before .loop-test .taken)))
+    omega (arith, in-list (c .before .before .before .before .before .before .before .before .before .before .loop .i) most _ (c .before .before .before .before .before .before .before .before .before .loop-test .taken)))
     loop-again
     (λ c. c .before .loop .inv .0 .rest .long)
     returns)

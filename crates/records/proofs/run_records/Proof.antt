@@ -80,6 +80,9 @@ module _ (c : tie.Else2 Inv-loop2 μ-loop2 Inv-loop μ-loop) where
   fits-here : Fits here
   fits-here = fits here (c .if2 .left)
 
+  place-byte : getD (entry here .args .events .now) (4 * here .loop2 .i + 1) 0 < 256
+  place-byte = omega (arith, here .before .before .before .before .before .before .before .before .shared-slice-known .given (4 * here .loop2 .i + 1))
+
   going : Going (entry here .args .events .now) (entry here .args .answers .now) (entry here .args .start) (entry here .args .board) (length (entry here .args .events .now) / 4)
       (here .loop2 .answers) (board here) (here .before .before .loop .marks) (here .before .before .loop .request) (here .before .before .loop .due) (here .loop2 .i)
   going = record { running = running here .0; kept = running here .1; more = c .if2 .left; events = omega arith; room = room here; byte = byte here }
@@ -105,7 +108,7 @@ acts c =
 loop-again : tie.Need-loop-again Inv-loop2 μ-loop2 Inv-loop μ-loop
 loop-again c =
     let at = c .before .before .before .before .before .before .before .before .before .before .before .before .before .before .before .before in
-    act-turn (going at) (c .before .before .before .before .before .before .before .before .before .before .before .if3 .taken) (sym (c .before .before .before .before .before .before .before .before .before .before .early-refusal .ensures) ∙ c .before .before .before .before .before .before .before .before .before .if4 .taken) (acts (c .before .before .before .before .before .before .before .before)) _ _ _ _ (c .before .before .before .before .before .before .mark .ensures) (c .before .before .before .before .before .renewed .ensures) (c .before .before .before .before .stirred .ensures)
+    act-turn (going at) (c .before .before .before .before .before .before .before .before .before .before .before .if3 .taken) (sym (c .before .before .before .before .before .before .before .before .before .before .early-refusal .ensures) ∙ c .before .before .before .before .before .before .before .before .before .if4 .taken) (acts (c .before .before .before .before .before .before .before .before)) _ _ _ _ (c .before .before .before .before .before .marked .ensures) (c .before .before .before .before .before .before .renewed .ensures) (c .before .before .before .before .stirred .ensures)
     (room-rest _ _ 4 _ _ (fits-here at .1) (omega arith) (c .before .before .put-record2 .ensures .1))
 
 loop-again-2 : tie.Need-loop-again-2 Inv-loop2 μ-loop2 Inv-loop μ-loop
@@ -176,12 +179,7 @@ run-records-spec =
     (λ c. omega (arith, fits-here (c .before .before .before .before)))
     (λ c. omega (arith, fits-here (c .before .before .before .before)))
     (λ c κs. search needs)
-    (λ c. omega arith)
-    (λ c. omega arith)
-    (λ c. search needs)
-    (λ c κs. search needs)
-    (λ c. omega arith)
-    (λ c. search needs)
+    (λ c. omega (arith, place-byte (c .before .before .before .before .before .before .before)))
     (λ c. omega arith)
     (λ c. search needs)
     (λ c κs. search needs)
@@ -210,8 +208,12 @@ run-records-spec =
     (λ c. omega arith)
     (λ c. search needs)
     (λ c κs. search needs)
-    (λ c κs. search needs)
+    (λ c. omega arith)
     (λ c. search needs)
+    (λ c. omega arith)
+    (λ c. search needs)
+    (λ c κs. search needs)
+    (λ c κs. search needs)
     (λ c κs. search needs)
     (λ c. omega (arith, fits-here (c .before .before .before .before .before .before .before .before .before .before .before .before)))
     (λ c. omega (arith, fits-here (c .before .before .before .before .before .before .before .before .before .before .before .before)))

@@ -10,7 +10,7 @@ freed-spec =
     tie.close
     (tie.spec
     (λ c. search free-none)
-    (λ c. free-beyond _ (c .before .before .before .args .w) 4 (c .before .if1 .left) (search needs) (c .if2 .taken))
+    (λ c. free-beyond _ (c .before .before .before .args .w) _ (c .before .if1 .left) (search needs) (c .if2 .taken))
     (λ c. search needs)
     (λ c. search needs)
     (λ c κs. search needs)
