@@ -118,7 +118,7 @@ val = LL.val T.the-type T′.the-laws
 
 -- the machine values of the chips, one by one, and of their row
 abbrev vchips : Board → List Val
-vchips h = items P.the-type P′.the-laws 4 (h .chips) (h .chips)
+vchips h = items P.the-type P′.the-laws most (h .chips) (h .chips)
 
 abbrev vrow : Board → Val
 vrow h = T′.the-laws .1 .0 .val (T.the-type .to h .1 .0)
@@ -175,7 +175,7 @@ module _ {M : Type 1} (𝓤 : URA M) (H : Heap 𝓤) (A : Atoms 𝓤) (W : Given
   goes₀ : Is T.the-row h (val h ∷ []) → ent 𝓤 (emp 𝓤) (Looks 𝓤 H A mem run .pre to₀)
   goes₀ was =
       let fields = LL.owed T.the-type T′.the-laws h (val h ∷ []) was in
-      qed W [] ∵ nothing ! $ owned ! (Array P.the-row 4) (Is (Array P.the-row 4)) (array-makes 𝓤 H A W P.the-row (LL.makes P.the-type P′.the-plain 𝓤 H A) 4) (h .chips) _ (as-records P.the-type 4 (h .chips) _ (fields .1 .0)) $ fjoin ! $
+      qed W [] ∵ nothing ! $ owned ! (Array P.the-row most) (Is (Array P.the-row most)) (array-makes 𝓤 H A W P.the-row (LL.makes P.the-type P′.the-plain 𝓤 H A) 4) (h .chips) _ (as-records P.the-type 4 (h .chips) _ (fields .1 .0)) $ fjoin ! $
       owned ! u8 (Is u8) (uint-makes 𝓤 H A W w8) (h .size) _ (fields .0) $ fjoin ! $ nothing ! $ join ! $ frame ! $ done !
 
   goes₁ : (v : Look) → Is T.the-row h (val h ∷ []) → Is L.the-row v (LL.vals L.the-type L′.the-laws v) → ent 𝓤 (⋆ 𝓤 H A ((‵ (flft κ′ q′) ⊛ ‵ ftrue) ∷ ‵ (owns (ShrSlice (named 1) κ′ u8 ∷ []) (e, tt) (slice-vals e, tt)) ∷ [])) (Plans 𝓤 H A mem run .pre (to₁ v))
@@ -194,7 +194,7 @@ module _ {M : Type 1} (𝓤 : URA M) (H : Heap 𝓤) (A : Atoms 𝓤) (W : Given
   goes₃ w was iw =
       let fields = LL.owed T.the-type T′.the-laws h (val h ∷ []) was in
       qed W [] ∵ nothing ! $ owned ! Q.the-row (Is Q.the-row) (LL.makes Q.the-type Q′.the-plain 𝓤 H A) w _ iw $ fjoin ! $
-      owned ! (Array P.the-row 4) (Is (Array P.the-row 4)) (array-makes 𝓤 H A W P.the-row (LL.makes P.the-type P′.the-plain 𝓤 H A) 4) (h .chips) _ (as-records P.the-type 4 (h .chips) _ (fields .1 .0)) $ fjoin ! $
+      owned ! (Array P.the-row most) (Is (Array P.the-row most)) (array-makes 𝓤 H A W P.the-row (LL.makes P.the-type P′.the-plain 𝓤 H A) 4) (h .chips) _ (as-records P.the-type 4 (h .chips) _ (fields .1 .0)) $ fjoin ! $
       owned ! u8 (Is u8) (uint-makes 𝓤 H A W w8) (h .size) _ (fields .0) $ fjoin ! $ nothing ! $ join ! $ frame ! $ done !
 
   said₀ : (v : Look) → ent 𝓤 (ensured 𝓤 H A looks.ended (looks.clauses 𝓤 H A mem run) tt args₀ tt v) (fact 𝓤 (Seen v))
@@ -280,9 +280,9 @@ module _ {M : Type 1} (𝓤 : URA M) (H : Heap 𝓤) (A : Atoms 𝓤) (W : Given
         keep ! (0 ∷ 2 ∷ 3 ∷ []) $ by ! (exits (wholly h w s) (step-whole h (now e) w (e₀ .1) found s (holds (w .whole) t) e₂) (made .1 .1 .0)))))))
         -- one chip
         (λ t.
-        let l : w .chip < length (vchips h) = subst (λ (m : ℕ). w .chip < m) (sym (items-count P.the-type P′.the-laws 4 (h .chips) _ (fields .1 .0))) (e₁ .1) in
-        let n : length (vchips h) ≡ 4 = items-count P.the-type P′.the-laws 4 (h .chips) _ (fields .1 .0) in
-        let ip : Is P.the-row (named-chip w) (LL.vals P.the-type P′.the-laws (named-chip w)) = get-known P.the-type P′.the-laws 4 (h .chips) _ (fields .1 .0) (w .chip) blank (e₁ .1) in
+        let l : w .chip < length (vchips h) = subst (λ (m : ℕ). w .chip < m) (sym (items-count P.the-type P′.the-laws most (h .chips) _ (fields .1 .0))) (e₁ .1) in
+        let n : length (vchips h) ≡ most = items-count P.the-type P′.the-laws most (h .chips) _ (fields .1 .0) in
+        let ip : Is P.the-row (named-chip w) (LL.vals P.the-type P′.the-laws (named-chip w)) = get-known P.the-type P′.the-laws most (h .chips) _ (fields .1 .0) (w .chip) blank (e₁ .1) in
         let ok : w .chip * 34 < 2 ^ 64 = omega (arith, e₁ .1) in
         assigns ! (of-opd ! (load ! (from ! (fld ! refl (stop !))) (look-in ! 35 (sub ! 2 refl (whole !))))) (from ! (stop !)) (init ! 31 refl (Q′.the-laws .1 .1 .0 .lawful 𝓤 H A W .typed _ _ (plan .1 .1 .0) .0)) $
         assigns ! (bin ! (load ! (from ! (stop !)) (look ! 31 refl)) (lit ! tt) (record { fits = ok })) (from ! (stop !)) (init ! 15 refl (tt, record { fits = ok })) $
@@ -290,8 +290,8 @@ module _ {M : Type 1} (𝓤 : URA M) (H : Heap 𝓤) (A : Atoms 𝓤) (W : Given
         assigns ! (bin ! (load ! (from ! (stop !)) (look ! 13 refl)) (load ! (from ! (stop !)) (look ! 15 refl)) tt) (from ! (stop !)) (init ! 11 refl (tt, tt)) $
         rewrite ! 11 (λ (m : ℕ). ‵ (fat fullShare tyPtr l₁₆ 0 (vptr b m))) (sym (place-is 34 (o + 1) (w .chip))) refl $
         assigns ! (of-opd ! (load ! (from ! (hop ! (look ! 11 refl) (stop !))) (look-in ! 1 (item ! (vchips h) (w .chip) (LL.val P.the-type P′.the-laws blank) l n (sub ! 1 refl (whole !)))))) (from ! (stop !))
-        (init ! 9 refl (subst Typed-chip (sym (get-val P.the-type P′.the-laws 4 (h .chips) (w .chip) blank)) (LL.lawful P.the-type P′.the-laws 𝓤 H A W .typed (named-chip w) _ ip .0))) $
-        rewrite ! 9 (λ (v : Val). ‵ (fat fullShare P′.mir l₁₇ 0 v)) (get-val P.the-type P′.the-laws 4 (h .chips) (w .chip) blank) refl $
+        (init ! 9 refl (subst Typed-chip (sym (get-val P.the-type P′.the-laws most (h .chips) (w .chip) blank)) (LL.lawful P.the-type P′.the-laws 𝓤 H A W .typed (named-chip w) _ ip .0))) $
+        rewrite ! 9 (λ (v : Val). ‵ (fat fullShare P′.mir l₁₇ 0 v)) (get-val P.the-type P′.the-laws most (h .chips) (w .chip) blank) refl $
         -- `step_chip`
         use0 W (raw (Single 𝓤 H A mem run .pre (to₂ w))) (goes₂ w ip (LL.owes Q.the-type Q′.the-laws w plan)) $
         calls-at ! fm (Single 𝓤 H A mem run) known₂ (to₂ w) (and-then ! (load ! (from ! (stop !)) (look ! 10 refl)) (and-then ! (load ! (from ! (stop !)) (look ! 36 refl)) (no-more !))) (λ u′.
@@ -307,8 +307,8 @@ module _ {M : Type 1} (𝓤 : URA M) (H : Heap 𝓤) (A : Atoms 𝓤) (W : Given
         (store-in ! 1 (item ! (vchips h) (w .chip) (LL.val P.the-type P′.the-laws blank) l n (sub ! 1 refl (whole !))) (LL.lawful P.the-type P′.the-laws 𝓤 H A W .typed (r .chip) _ (made .0) .0)) $
         assigns ! (of-opd ! (load ! (from ! (fld ! refl (stop !))) (look-in ! 35 (sub ! 10 refl (whole !))))) (from ! (hop ! (look ! 41 refl) (fld ! refl (stop !)))) (store-in ! 1 (sub ! 2 refl (whole !)) (Q′.the-laws .1 .1 .1 .1 .1 .1 .1 .1 .1 .1 .0 .lawful 𝓤 H A W .typed _ _ (plan .1 .1 .1 .1 .1 .1 .1 .1 .1 .1 .0) .0)) $
         assigns ! (of-opd ! (load ! (from ! (fld ! refl (stop !))) (look-in ! 29 (sub ! 3 refl (whole !))))) (from ! (stop !)) (init ! 43 refl (S′.the-laws .1 .1 .1 .0 .lawful 𝓤 H A W .typed _ _ (made .1 .1 .1 .0) .0)) $
-        rewrite ! 1 (λ (vs : List Val). ‵ (fat fullShare T′.mir b o (vstruct (vcons (vint w8 (h .size)) (vcons (vstruct (ofList vs)) (vcons (LL.val D.the-type D′.the-laws (w .decoder)) vnil)))))) (set-val P.the-type P′.the-laws 4 (h .chips) (w .chip) (r .chip)) refl $
-        owned ! T.the-row (Is T.the-row) (LL.makes T.the-type T′.the-plain 𝓤 H A) (changed w r) _ (LL.owes T.the-type T′.the-laws (changed w r) (fields .0, (set-known P.the-type P′.the-laws 4 (h .chips) _ (fields .1 .0) (w .chip) (r .chip) (made .0), (plan .1 .1 .1 .1 .1 .1 .1 .1 .1 .1 .0, tt)))) $
+        rewrite ! 1 (λ (vs : List Val). ‵ (fat fullShare T′.mir b o (vstruct (vcons (vint w8 (h .size)) (vcons (vstruct (ofList vs)) (vcons (LL.val D.the-type D′.the-laws (w .decoder)) vnil)))))) (set-val P.the-type P′.the-laws most (h .chips) (w .chip) (r .chip)) refl $
+        owned ! T.the-row (Is T.the-row) (LL.makes T.the-type T′.the-plain 𝓤 H A) (changed w r) _ (LL.owes T.the-type T′.the-laws (changed w r) (fields .0, (set-known P.the-type P′.the-laws most (h .chips) _ (fields .1 .0) (w .chip) (r .chip) (made .0), (plan .1 .1 .1 .1 .1 .1 .1 .1 .1 .1 .0, tt)))) $
         move ! (2 ∷ []) $ use1 W (‵ (cellAt fullShare (T.the-row .mir) (val (changed w r) ∷ []) b o)) (W .laws .at-raw fullShare T′.mir b o (val (changed w r))) $
         move ! (0 ∷ 1 ∷ 3 ∷ 4 ∷ 5 ∷ []) $ closes ! tt T.the-row (changed w r) (val (changed w r) ∷ []) b o $
         returns-within ! Post refl (look ! 42 refl) $ forget ! 4 refl $ forget ! 6 refl $ forget ! 8 refl $ forget ! 10 refl $ forget ! 12 refl $ forget ! 14 refl $ forget ! 20 refl $ forget ! 22 refl $ forget ! 24 refl $ forget ! 26 refl $ forget ! 28 refl $ forget ! 30 refl $ forget ! 34 refl $ forget ! 36 refl $ forget ! 38 refl $ forget ! 40 refl $ forget ! 42 refl $
