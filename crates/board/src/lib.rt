@@ -18,7 +18,7 @@ pub struct Board {
     pub decoder: Decoder,
 }
 
-// `request` tells who asks for an interrupt after the event: the nearest asking place and 1, or 0 for nobody.
+// `request` tells who asks for an interrupt after the event: the nearest asking place + 1, or 0 for nobody.
 #[repr(C)]
 pub struct Answer {
     pub code: u8,
@@ -129,7 +129,7 @@ pub fn stirred(c: Chip) -> bool
     (a.asked & !(a.awaiting == 2) & !a.live) | (b.asked & !(b.awaiting == 2) & !b.live)
 }
 
-// One look at every chip that is there. How long the row of chips is is said for callers whose row is a board's field.
+// One look at every chip that is there. The row's length is promised for callers whose row is a board's field.
 pub fn look_over(size: u8, chips: [Chip; MOST]) -> Look
     ensures { λ r. ⌜ (r ≡ lookOf size chips) × (length chips ≡ most) ⌝ }
 {

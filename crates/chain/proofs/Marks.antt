@@ -9,12 +9,14 @@ use native.Mathlib.Omega.{arith}
 use lib.Dec.{ltb, leb·suc-suc, leb·zero}
 use lib.ListN.{length, length-map, getD, take, set, replicate}
 use lib.Seq.{set-getD}
+use borrow.Author.Tests.{eq-eqb, ne-eqb, eqb-true, lt-ltb, le-ltb, ltb-false}
 use Rattle.bits.specs.Bits.{if_then_else_, _is_}
+use Rattle.bits.proofs.Logic.{byCases}
 use Rattle.port.specs.declared.Port.{Port}
 use Rattle.chip.specs.declared.Chip.{Chip}
 use Rattle.chain.specs.Places.{first}
 use Rattle.chain.specs.Chain.{most, ready, under, asking, asker, asks, holder, flat}
-use Rattle.chain.specs.Marks.{markOf, Marks, markedOf, marksOf, up, callerOf, holderOf}
+use Rattle.chain.specs.Marks.{markOf, Marks, markedOf, marksOf, up, callerOf, holderOf, renewedOf}
 use Rattle.chain.proofs.Places.{set-beyond}
 
 -- ---- the nearest set place and 1, or 0 if none is set
@@ -156,11 +158,22 @@ module _ (ms : Marks) (k : ℕ) (c : Chip) where
   pub sets-mark : (m : ℕ) → m ≡ markOf c → set ms k m ≡ markedOf ms k c
   sets-mark m e = rw e
 
-  pub asks-still : (r : ℕ) → length ms ≡ most → most ≤ k → r ≡ callerOf ms → r ≡ callerOf (markedOf ms k c)
-  asks-still r l h e = e ∙ ap callerOf (set-beyond ms k (markOf c) most l h)
+  pub asks-still : (r : ℕ) → length ms ≡ most → most ≤ k → r ≡ renewedOf ms k c r
+  unfolding renewedOf if_then_else_
+  asks-still r l h = rw (l, le-ltb k most h)
 
-  pub asks-same : (r m : ℕ) → getD ms k 0 ≡ m → m ≡ markOf c → r ≡ callerOf ms → r ≡ callerOf (markedOf ms k c)
-  asks-same r m e i h = h ∙ ap callerOf (sym (set-getD ms k 0) ∙ ap (set ms k) (e ∙ i))
+  pub asks-same : (r m : ℕ) → length ms ≡ most → k < most → getD ms k 0 ≡ m → m ≡ markOf c → r ≡ renewedOf ms k c r
+  unfolding renewedOf if_then_else_
+  asks-same r m l h e i = rw (l, lt-ltb k most h, eq-eqb (getD ms k 0) (markOf c) (e ∙ i))
 
-  pub asks-anew : (r m : ℕ) → m ≡ markOf c → r ≡ callerOf (set ms k m) → r ≡ callerOf (markedOf ms k c)
-  asks-anew r m e h = h ∙ ap callerOf (sets-mark m e)
+  pub asks-anew : (q r m : ℕ) → length ms ≡ most → k < most → (getD ms k 0 ≡ m → ⊥) → m ≡ markOf c → q ≡ callerOf (set ms k m) → q ≡ renewedOf ms k c r
+  unfolding renewedOf if_then_else_
+  asks-anew q r m l h n e i = rw (l, lt-ltb k most h, ne-eqb (getD ms k 0) (markOf c) (λ z. n (z ∙ sym e))) (i ∙ ap callerOf (sets-mark m e))
+
+  -- it is who asks now, if it was who asked before
+  pub renewed-is : (r : ℕ) → r ≡ callerOf ms → renewedOf ms k c r ≡ callerOf (markedOf ms k c)
+  unfolding renewedOf if_then_else_
+  renewed-is r e =
+      byCases (ltb k (length ms))
+      (λ t. byCases (getD ms k 0 is markOf c) (λ u. rw (t, u) (e ∙ ap callerOf (sym (set-getD ms k 0) ∙ ap (set ms k) (eqb-true (getD ms k 0) (markOf c) u)))) (λ u. rw (t, u)))
+      (λ t. rw t (e ∙ ap callerOf (set-beyond ms k (markOf c) (length ms) refl (ltb-false k (length ms) t))))

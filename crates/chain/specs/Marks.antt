@@ -2,8 +2,10 @@
 -- need be believed: the laws in proofs/Marks.antt say that the answers are those of Chain.antt.
 -- Assumes nothing.
 use Prim.Native.Nat.{ℕ, zero, suc, _+_, _*_, _/_, _%_}
+use mathlib.Core.Bool.{_&&_, not}
 use mathlib.Core.List.{List, [], _∷_}
-use lib.ListN.{set, replicate}
+use lib.Dec.{ltb}
+use lib.ListN.{length, getD, set, replicate}
 use Rattle.bits.specs.Bits.{if_then_else_, _is_}
 use Rattle.chip.specs.declared.Chip.{Chip}
 use Rattle.chain.specs.Chain.{most, ready, under}
@@ -58,3 +60,7 @@ callerOf (m ∷ ms) = if m % 4 is 0 then up (callerOf ms) else if m % 4 is 3 the
 unfoldable pub holderOf : Marks → ℕ
 holderOf [] = 0
 holderOf (m ∷ ms) = if m / 4 % 4 is 0 then up (holderOf ms) else m / 4 % 4
+
+-- who asks where the chip k is now c and `request` asked before: searched for only where the chip's mark changes
+unfoldable pub renewedOf : Marks → ℕ → Chip → ℕ → ℕ
+renewedOf marks k c request = if ltb k (length marks) && not (getD marks k 0 is markOf c) then callerOf (markedOf marks k c) else request

@@ -4,7 +4,7 @@ use chip::Chip;
 ghost use mathlib.Core.Path.{_≡_};
 ghost use Rattle.bits.specs.Bits.{if_then_else_};
 ghost use Rattle.chain.specs.Decode.{nextOf, retiOf};
-ghost use Rattle.chain.specs.Marks.{markOf, unmarkedOf, markedOf, callerOf, holderOf};
+ghost use Rattle.chain.specs.Marks.{markOf, unmarkedOf, markedOf, callerOf, holderOf, renewedOf};
 
 // The most chips that a chain can have.
 pub const MOST: usize = 4;
@@ -99,7 +99,7 @@ pub fn caller(marks: Marks) -> u8
 
 // Who asks where the chip `k` is now `c`; `request` is who asked before. It is searched for only if the chip's mark changes.
 pub fn renewed(marks: Marks, k: usize, c: Chip, request: u8) -> u8
-    ensures { λ r. ⌜ (request ≡ callerOf marks → r ≡ callerOf (markedOf marks k c)) ⌝ }
+    ensures { λ r. ⌜ r ≡ renewedOf marks k c request ⌝ }
 {
     if k >= MOST {
         return request;

@@ -22,7 +22,8 @@ use Rattle.events.specs.Act.{eventOf, step, actOf}
 use Rattle.events.proofs.Ways.{acted, act-write, act-strobe, act-outside}
 use Rattle.chain.specs.declared.Decoder.{Decoder}
 use Rattle.chain.specs.Chain.{most, sideOf}
-use Rattle.chain.specs.Marks.{Marks, markedOf, callerOf}
+use Rattle.chain.specs.Marks.{Marks, markedOf, callerOf, renewedOf}
+use Rattle.chain.proofs.Marks.{renewed-is}
 use Rattle.buffers.specs.Splice.{splice}
 use Rattle.board.specs.declared.Board.{Board}
 use Rattle.board.specs.declared.Plan.{Plan}
@@ -151,7 +152,7 @@ module _ {es old : List ℕ} {start : ℕ} {b₀ : Board} {n : ℕ} {out : List 
       ap (withActed w) (touch-act (chip-at es i (b .chips)) w a (λ m. omega (arith, m, lo)) (λ m. omega (arith, m, lo)) e) ∙ sym (if-on true (withActed w _) _ refl)
 
   pub act-turn : {new : List Chip} {code shown : ℕ} (a : Acts es i (b .chips) new code shown) (ms : Marks) (q : ℕ) (y : Bool) (out′ : List ℕ) → ms ≡ markedOf marks (k es i) (chip-at es i new)
-      → (request ≡ callerOf marks → q ≡ callerOf (markedOf marks (k es i) (chip-at es i new))) → y ≡ stirs (chip-at es i new)
+      → q ≡ renewedOf marks (k es i) (chip-at es i new) request → y ≡ stirs (chip-at es i new)
       → out′ ≡ splice out (4 * (start + i)) (code ∷ place es i ∷ shown ∷ q ∷ [])
       → Running es old start b₀ n out′ (record { size = b .size; chips = new; decoder = b .decoder }) (i + 1)
       × Kept (record { size = b .size; chips = new; decoder = b .decoder }) ms q (due || y)
@@ -159,7 +160,7 @@ module _ {es old : List ℕ} {start : ℕ} {b₀ : Board} {n : ℕ} {out : List 
       let d = a .done in
       let e = ap (λ (cs : List Chip). getD cs (k es i) blank) (a .row) ∙ getD-set-same (b .chips) (k es i) (d .chip) blank in-row in
       let v = u ∙ ap (markedOf marks (k es i)) e in
-      let s = r (g .kept .asked) ∙ ap (λ (x : Chip). callerOf (markedOf marks (k es i) x)) e in
+      let s = r ∙ renewed-is marks (k es i) (chip-at es i new) request (g .kept .asked) ∙ ap (λ (x : Chip). callerOf (markedOf marks (k es i) x)) e in
       rw (l, e, s, v, a .row)
       (single-turn g w planned (withActed w d) out′ refl refl (changes d (a .event (chip-sound b (k es i) (g .kept .sound) (g .kept .row) fits)))
       (rw (← a .coded, ← a .told, ← s) o))

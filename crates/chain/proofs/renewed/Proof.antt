@@ -9,12 +9,10 @@ pub renewed-spec : {M : Type 1} → statement M
 renewed-spec =
     tie.close
     (tie.spec
-    (λ c h. asks-still _ _ _ _ (search needs) (c .if1 .taken) h)
+    (λ c. asks-still _ _ _ _ (search needs) (c .if1 .taken))
     (λ c κs. search needs)
     (λ c. search needs)
-    (λ c h. asks-same _ _ _ _ _ (c .if2 .taken) (c .before .mark .ensures) h)
+    (λ c. asks-same _ _ _ _ _ (search needs) (c .before .before .if1 .left) (c .if2 .taken) (c .before .mark .ensures))
     (λ c. search needs)
     (λ c κs. search needs)
-    (λ c h.
-    let given = c .before .before .before .before .args in
-    asks-anew (given .t1) (given .k) (given .c) _ _ (c .before .before .mark .ensures) (c .caller .ensures)))
+    (λ c. asks-anew _ _ _ _ _ _ (search needs) (c .before .before .before .if1 .left) (c .before .if2 .left) (c .before .before .mark .ensures) (c .caller .ensures)))
