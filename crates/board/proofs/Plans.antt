@@ -24,6 +24,12 @@ use Rattle.board.proofs.Ways.{on}
 use Rattle.board.proofs.Tables.{place-there}
 use Rattle.board.proofs.Halves.{size-fits, places}
 
+-- of the board b and the event's bytes e
+pub record Planned (b : Board) (e : List ℕ) (w : Plan) : Type 0 where
+  pub marked : w .marks ≡ marksOf (b .size) (b .chips)
+  pub there : w .one ≡ true → w .chip < b .size
+  pub asked : length e ≡ 4 → w .request ≡ callerOf (marksOf (b .size) (b .chips))
+
 by-if : (P : Plan → Type 0) (t : Bool) (x y : Plan) → (t ≡ true → P x) → (t ≡ false → P y) → P (if t then x else y)
 unfolding if_then_else_
 by-if P true x y f g = f refl
@@ -38,16 +44,14 @@ module _ (b : Board) (s : soundBoard b ≡ true) (len : length (b .chips) ≡ mo
   abbrev marks : Marks
   marks = marksOf (b .size) (b .chips)
 
-  pub record Planned (w : Plan) : Type 0 where
-    pub marked : w .marks ≡ marks
-    pub there : w .one ≡ true → w .chip < b .size
-    pub asked : length e ≡ 4 → w .request ≡ callerOf marks
+  abbrev Fits : Plan → Type 0
+  Fits w = Planned b e w
 
   -- of four bytes, with no chip named, and with one
-  at-none : (w : Plan) → w .marks ≡ marks → w .one ≡ false → w .request ≡ callerOf marks → Planned w
+  at-none : (w : Plan) → w .marks ≡ marks → w .one ≡ false → w .request ≡ callerOf marks → Fits w
   at-none w m o r = record { marked = m; there = λ h. absurd (false≢true (sym o ∙ h)); asked = λ _. r }
 
-  at-one : (w : Plan) → w .marks ≡ marks → w .chip < b .size → w .request ≡ callerOf marks → Planned w
+  at-one : (w : Plan) → w .marks ≡ marks → w .chip < b .size → w .request ≡ callerOf marks → Fits w
   at-one w m l r = record { marked = m; there = λ _. l; asked = λ _. r }
 
   chip-fits : (place : ℕ) → place < b .size * 2 → place / 2 % most < b .size
@@ -63,29 +67,29 @@ module _ (b : Board) (s : soundBoard b ≡ true) (len : length (b .chips) ≡ mo
       let t = choice-found (asks (ports b)) (asker (ports b) + 1) (rw (caller-is (b .size) (b .chips)) at z) in
       chip-fits (callerOf marks - 1) (omega (arith, caller-is (b .size) (b .chips) ∙ if-on _ _ _ t, ltb-true (asker (ports b)) (length (ports b)) t, places b s len))
 
-  fetch-fits : (v : ℕ) → Planned (fetchPlan (b .decoder) marks due v (callerOf marks))
+  fetch-fits : (v : ℕ) → Fits (fetchPlan (b .decoder) marks due v (callerOf marks))
   unfolding fetchPlan
   fetch-fits v =
-      by-if Planned (not (retiOf (b .decoder) v)) _ _ (λ t. at-none _ refl refl refl) (λ t.
-      by-if Planned (holderOf marks is 0) _ _ (λ z. at-none _ refl refl refl) (λ z. at-one _ refl (holder-fits z) refl))
+      by-if Fits (not (retiOf (b .decoder) v)) _ _ (λ t. at-none _ refl refl refl) (λ t.
+      by-if Fits (holderOf marks is 0) _ _ (λ z. at-none _ refl refl refl) (λ z. at-one _ refl (holder-fits z) refl))
 
-  acknowledge-fits : Planned (acknowledgePlan marks (callerOf marks))
+  acknowledge-fits : Fits (acknowledgePlan marks (callerOf marks))
   unfolding acknowledgePlan
-  acknowledge-fits = by-if Planned (callerOf marks is 0) _ _ (λ z. at-none _ refl refl refl) (λ z. at-one _ refl (caller-fits z) refl)
+  acknowledge-fits = by-if Fits (callerOf marks is 0) _ _ (λ z. at-none _ refl refl refl) (λ z. at-one _ refl (caller-fits z) refl)
 
-  accepted-fits : (kind place v : ℕ) → place < b .size * 2 → Planned (acceptedPlan (b .decoder) marks due (callerOf marks) kind place v)
+  accepted-fits : (kind place v : ℕ) → place < b .size * 2 → Fits (acceptedPlan (b .decoder) marks due (callerOf marks) kind place v)
   unfolding acceptedPlan
   accepted-fits kind place v l =
-      by-if Planned (kind is 1) _ _ (λ t. fetch-fits v) (λ t.
-      by-if Planned (kind is 0) _ _ (λ z. at-none _ refl refl refl) (λ z.
-      by-if Planned (kind is 2) _ _ (λ z. acknowledge-fits) (λ z. at-one _ refl (chip-fits place l) refl)))
+      by-if Fits (kind is 1) _ _ (λ t. fetch-fits v) (λ t.
+      by-if Fits (kind is 0) _ _ (λ z. at-none _ refl refl refl) (λ z.
+      by-if Fits (kind is 2) _ _ (λ z. acknowledge-fits) (λ z. at-one _ refl (chip-fits place l) refl)))
 
   not-four : not (length e is 4) ≡ true → length e ≡ 4 → {X : Type 0} → X
   not-four t l = absurd (false≢true (rw (eq-eqb (length e) 4 l) at t))
 
-  pub planned : Planned (planOf (b .size) (b .decoder) marks due (callerOf marks) e)
+  pub planned : Planned b e (planOf (b .size) (b .decoder) marks due (callerOf marks) e)
   unfolding planOf
   planned =
-      by-if Planned (not (length e is 4)) _ _ (λ t. record { marked = refl; there = λ h. absurd (false≢true h); asked = λ l. not-four t l }) (λ t.
-      by-if Planned (not (earlyAt (b .size) e is 0)) _ _ (λ z. at-none _ refl refl refl) (λ z.
+      by-if Fits (not (length e is 4)) _ _ (λ t. record { marked = refl; there = λ h. absurd (false≢true h); asked = λ l. not-four t l }) (λ t.
+      by-if Fits (not (earlyAt (b .size) e is 0)) _ _ (λ z. at-none _ refl refl refl) (λ z.
       accepted-fits (kindOf e) (placeOf e) (valueOf e) (place-there (b .size) (kindOf e) (placeOf e) (valueOf e) (lastOf e) (on (earlyAt (b .size) e is 0) z))))

@@ -109,7 +109,7 @@ module _ (b : Board) (marks : Marks) (request : ℕ) (due : Bool) (k : Kept b ma
   pub idle-steps : w .whole ≡ false → w .one ≡ false → idly b w ≡ stepOf b e
   idle-steps t u = carried-idle b w t u ∙ steps
 
-  fits : Planned b (k .sound) (k .row) due e w
+  fits : Planned b e w
   fits = rw plan-is (planned b (k .sound) (k .row) due e)
 
   -- the request of four bytes is that which was known
