@@ -17,8 +17,7 @@ use Rattle.board.specs.Step.{refusal, Doing, reset, fetch, acknowledge, at, doi
 use Rattle.board.proofs.Quick.{step-sound}
 use Rattle.demands.specs.Words as words
 use Rattle.demands.specs.Asks.{Names, WhoIsAsking}
-use Rattle.demands.proofs.Turn.{asks-yes}
-use Rattle.demands.proofs.Demand3.{acknowledge-accepted, turn-is, no-request, value-byte}
+use Rattle.demands.proofs.Demand3.{acknowledge-accepted, nearest-is, turn-is, no-request, value-byte}
 
 -- ---- an answer's fourth byte is the request that it is given
 by-either : (t : Bool) (a c p d v q r : ℕ) → (if t then answer a p v r else answer c d q r) .request ≡ r
@@ -43,9 +42,9 @@ of-the-board b e s l =
 
 -- ---- the request of a sound board
 module _ (b : Board) (s : soundBoard b ≡ true) where
-  whom : requestOf b ≡ (if words.turn (length (ports b)) b (words.found b) then words.nearest b + 1 else 0)
+  whom : requestOf b ≡ (if words.turn (length (ports b)) b (words.underService b) then words.nearest b + 1 else 0)
   unfolding requestOf if_then_else_
-  whom = rw (turn-is b) (byCases (asks (ports b)) (λ t. rw (t, asks-yes (ports b) t .0)) (λ t. rw t))
+  whom = rw (turn-is b) (byCases (asks (ports b)) (λ t. rw (t, nearest-is b t)) (λ t. rw t))
 
   would-answer : answered b acknowledge 0 0 ≡ (if requestOf b is 0 then answer 3 0 255 0 else answer 2 (requestOf b - 1) (portAt b (requestOf b - 1) .vector) 0)
   unfolding requestOf if_then_else_

@@ -1,15 +1,15 @@
 -- Demand 1, of the step and of the run.
 -- Assumes nothing.
 use mathlib.Core.Path.{_≡_, refl, sym, ap, _∙_}
-use mathlib.Core.Bool.{Bool, true, false, _&&_, not, true≢false, false≢true}
+use mathlib.Core.Bool.{true, false, not, true≢false}
 use mathlib.Core.List.{List}
-use Prim.Native.Nat.{ℕ, _+_, _*_, _/_, _%_, _≤_}
+use Prim.Native.Nat.{ℕ, _+_, _*_, _/_, _≤_}
 use native.Mathlib.Omega.{arith}
 use lib.Dec.{ltb}
 use lib.ListN.{length}
-use borrow.Author.Tests.{eqb-true, eq-eqb, ne-eqb, ltb-true, ltb-false}
+use borrow.Author.Tests.{eqb-true, eqb-false, eq-eqb, ne-eqb, ltb-true, ltb-false, not-true}
 use Rattle.bits.specs.Bits.{if_then_else_, _is_}
-use Rattle.bits.proofs.Logic.{byCases}
+use Rattle.bits.proofs.Logic.{byCases, both}
 use Rattle.buffers.specs.Splice.{splice}
 use Rattle.buffers.proofs.Splices.{length-splice}
 use Rattle.board.specs.declared.Board.{Board}
@@ -21,7 +21,7 @@ use Rattle.records.proofs.Whole.{records-length, answers-length}
 use Rattle.run.specs.Run.{runLines, refusalOf, runRefusal, ranOf, bufferOf}
 use Rattle.demands.specs.Words.{stepCodes, runCodes, listed, decides}
 use Rattle.demands.specs.Demands.{Answered, FourBytes, NotFourBytes, AnsweredRun, EveryRun}
-use Rattle.demands.proofs.Refusals.{verdict-each, verdict-decides, verdict-none, step-refused, accepted-code, refused-code, refused-each}
+use Rattle.demands.proofs.Refusals.{verdict-each, verdict-decides, verdict-none, none-drop, step-refused, accepted-code, refused-code, refused-each}
 
 pub not-four-bytes : NotFourBytes
 unfolding stepOf if_then_else_
@@ -56,13 +56,6 @@ pub four-bytes : FourBytes
 four-bytes b e four = byCases (refusal b e is 0) (when-accepted b e four) (when-refused b e four)
 
 -- ---- the run
--- none of three lines is true, so the third is not
-third : (x y z : Bool) → (not x && (not y && (not z && true))) ≡ true → z ≡ false
-third true y z h = absurd (false≢true h)
-third false true z h = absurd (false≢true h)
-third false false true h = absurd (false≢true h)
-third false false false h = refl
-
 module _ (b : Board) (es old : List ℕ) (start : ℕ) where
   abbrev why : ℕ
   why = runRefusal b (length es) (length old) start
@@ -78,8 +71,13 @@ module _ (b : Board) (es old : List ℕ) (start : ℕ) where
   fits : (why is 0) ≡ true → 4 * start + length (answersOf b (records es)) ≤ length old
   unfolding refusalOf
   fits h =
-      let room = third (not (soundBoard b)) (not (length es % 4 is 0)) (ltb (length old / 4) (start + length es / 4)) (verdict-none table refl h) in
+      let short = ltb (length old / 4) (start + length es / 4) in
+      let room = not-true short (both (not short) true (none-drop 2 table (verdict-none table refl h)) .0) in
       omega (arith, ltb-false (length old / 4) (start + length es / 4) room, answers-length b (records es), records-length es)
+
+  pub done-fits : ranOf b es old start .code ≡ 0 → 4 * start + length (answersOf b (records es)) ≤ length old
+  unfolding ranOf if_then_else_
+  done-fits z = byCases (why is 0) fits (λ h. absurd (eqb-false why 0 h (rw h at z)))
 
   ran-done : (why is 0) ≡ true → ranOf b es old start ≡ record { code = 0; records = length (records es); board = stepsOf b (records es) }
   unfolding ranOf if_then_else_

@@ -62,11 +62,11 @@ pub farthest-clear : (s : List Bool) → reverse (places (set s (first s) false)
 farthest-clear s = rw (places-clear s) (reverse-tail (places s))
 
 -- ---- their order, and who stands nearer than all of them
-map-snoc : (l : List ℕ) (x : ℕ) → map suc (l ++ (x ∷ [])) ≡ map suc l ++ (suc x ∷ [])
+pub map-snoc : (l : List ℕ) (x : ℕ) → map suc (l ++ (x ∷ [])) ≡ map suc l ++ (suc x ∷ [])
 map-snoc [] x = refl
 map-snoc (a ∷ l) x = rw (map-snoc l x)
 
-reverse-map : (l : List ℕ) → reverse (map suc l) ≡ map suc (reverse l)
+pub reverse-map : (l : List ℕ) → reverse (map suc l) ≡ map suc (reverse l)
 reverse-map [] = refl
 reverse-map (x ∷ l) = rw (reverse-cons (suc x) (map suc l), reverse-cons x l, map-snoc, reverse-map l)
 

@@ -3,9 +3,9 @@
 use mathlib.Core.Path.{_≡_, refl, sym, ap, _∙_}
 use mathlib.Core.Bool.{Bool, true, false, _&&_, not, true≢false, false≢true}
 use mathlib.Core.List.{List, [], _∷_}
-use Prim.Native.Nat.{ℕ, _≤_}
+use Prim.Native.Nat.{ℕ, zero, suc, _≤_}
 use native.Mathlib.Omega.{arith}
-use lib.ListN.{length}
+use lib.ListN.{length, drop}
 use borrow.Author.Tests.{eqb-true, ne-eqb, not-true}
 use Rattle.bits.specs.Bits.{if_then_else_, _is_}
 use Rattle.bits.proofs.Logic.{byCases, both}
@@ -62,12 +62,17 @@ verdict-none [] a h = refl
 verdict-none (line true code ∷ l) a h = absurd (true≢false (sym (both (not (code is 0)) (lacks 0 l) a .0) ∙ ap not h))
 verdict-none (line false code ∷ l) a h = verdict-none l (both (not (code is 0)) (lacks 0 l) a .1) h
 
+pub none-drop : (k : ℕ) (l : List Line) → noneTrue l ≡ true → noneTrue (drop k l) ≡ true
+none-drop zero l h = h
+none-drop (suc k) [] h = h
+none-drop (suc k) (line t code ∷ l) h = none-drop k l (both (not t) (noneTrue l) h .1)
+
 -- ---- what all numbers of a list have, a listed one has
 abbrev pub all : (ℕ → Bool) → List ℕ → Bool
 all f [] = true
 all f (n ∷ l) = f n && all f l
 
-listed-all : (f : ℕ → Bool) (n : ℕ) (l : List ℕ) → all f l ≡ true → listed n l ≡ true → f n ≡ true
+pub listed-all : (f : ℕ → Bool) (n : ℕ) (l : List ℕ) → all f l ≡ true → listed n l ≡ true → f n ≡ true
 listed-all f n [] a h = absurd (false≢true h)
 listed-all f n (m ∷ l) a h =
     let s = both (f m) (all f l) a in

@@ -1,4 +1,4 @@
--- What the observer keeps is what is under service: one accepted event, one step, a session.
+-- What the observer keeps is what is under service, and what the decoder remembers: one accepted event, one step, a session.
 -- Assumes nothing.
 use mathlib.Core.Path.{_≡_, refl, ap, ap₂, _∙_}
 use mathlib.Core.Bool.{Bool, true, false, not}
@@ -15,21 +15,21 @@ use Rattle.chip.specs.Chip as chip
 use Rattle.chip.proofs.Touch as touch
 use Rattle.events.specs.Events.{changed}
 use Rattle.events.proofs.Touch.{changed-under}
-use Rattle.chain.specs.declared.Decoder.{Decoder}
 use Rattle.chain.specs.Places.{places, adjust}
 use Rattle.chain.specs.Chain.{under, asker, asks, flat, sideOf, acknowledged, retired}
-use Rattle.chain.specs.Decode.{shut, nextOf, retiOf}
+use Rattle.chain.specs.Decode.{retiOf}
 use Rattle.chain.proofs.Flat.{flat-at}
 use Rattle.board.specs.declared.Board.{Board}
-use Rattle.board.specs.declared.Stepped.{Stepped}
 use Rattle.board.specs.Board.{there, ports, requestOf}
 use Rattle.board.specs.Step.{kindOf, valueOf, Doing, reset, fetch, acknowledge, at, doingOf, change, taken, answered, refusal, accepted, refused, stepOf}
 use Rattle.board.proofs.There.{there-taken}
 use Rattle.records.specs.Records.{records, bytesOf, stepsOf, answersOf}
 use Rattle.demands.specs.Observer.{Kept, nothing, code, fetched, see, seeAll}
 use Rattle.demands.specs.Observer as observer
-use Rattle.demands.specs.Words.{underService, found}
-use Rattle.demands.proofs.Turn.{farthest, farthest-served, farthest-released}
+use Rattle.demands.specs.Words.{underService, remembered}
+use Rattle.demands.proofs.Decoding.{reti-is, next-is}
+use Rattle.demands.proofs.Same.{farthest, serving-is}
+use Rattle.demands.proofs.Turn.{farthest-served, farthest-released}
 use Rattle.demands.proofs.Refusals.{step-accepted, step-refused, accepted-code, refused-each}
 use Rattle.demands.proofs.Demand1.{not-four-bytes}
 
@@ -49,7 +49,7 @@ none-after-reset (c ∷ cs) = rw (none-after-reset cs)
 
 -- settling touches nobody's service
 pub list-taken : (b : Board) (e : Doing) → underService (taken b e) ≡ farthest (flat (change (b .decoder) e (there b)))
-list-taken b e = rw (there-taken b e, same-map settle (λ c. refl))
+list-taken b e = rw (serving-is (ports (taken b e)), there-taken b e, same-map settle (λ c. refl))
 
 pub list-fetched : (t : Bool) (cs : List Chip) → farthest (flat (map chip.fetch (if t then retired cs else cs))) ≡ (if t then dropLast (farthest (flat cs)) else farthest (flat cs))
 unfolding if_then_else_ retired
@@ -74,49 +74,55 @@ see-doing e a k h =
     (byCases (kindOf e is 1) (λ i. rw i) (λ i. rw i
     (byCases (kindOf e is 2) (λ i. rw i) (λ i. rw i))))))
 
-same-kept : (d : Decoder) (l m : List ℕ) → l ≡ m → _≡_ {A = Kept} (record { decoder = d; list = l }) (record { decoder = d; list = m })
-same-kept d l m e = rw e
+-- ---- the observer is up to date with a board: the list is that of the ports under service, and the history the one remembered
+pub record Current (b : Board) (k : Kept) : Type 0 where
+  pub list : underService b ≡ k .list
+  pub memory : b .decoder .prefix ≡ remembered (k .history)
 
-look-taken : (b : Board) (d : Doing) (v r : ℕ) → found (taken b d) ≡ seeDoing d (bytesOf (answered b d v r)) (found b)
+look-taken : (b : Board) (d : Doing) (v r : ℕ) (k : Kept) → Current b k → Current (taken b d) (seeDoing d (bytesOf (answered b d v r)) k)
 unfolding taken bytesOf if_then_else_
-look-taken b reset v r = same-kept shut (underService (taken b reset)) [] (list-taken b reset ∙ ap reverse (none-after-reset (there b)))
-look-taken b (fetch byte) v r =
-    same-kept (nextOf (b .decoder) byte) (underService (taken b (fetch byte))) (fetched byte (found b) .list)
-    (list-taken b (fetch byte) ∙ list-fetched (retiOf (b .decoder) byte) (there b))
-look-taken b acknowledge v r =
-    same-kept shut (underService (taken b acknowledge)) (observer.acknowledged (bytesOf (answered b acknowledge v r)) (found b) .list)
-    (list-taken b acknowledge ∙ list-acknowledged (there b) ∙ byCases (asks (ports b)) (λ e. rw e) (λ e. rw e))
-look-taken b (at place e) v r =
-    same-kept (b .decoder) (underService (taken b (at place e))) (underService b)
-    (list-taken b (at place e) ∙ ap (λ (s : List Bool). reverse (places s)) (same-at (changed (sideOf place) e) (changed-under (sideOf place) e) (place / 2) (there b)))
+look-taken b reset v r k u = record { list = list-taken b reset ∙ ap reverse (none-after-reset (there b)); memory = refl }
+look-taken b (fetch byte) v r k u = record {
+  list = list-taken b (fetch byte) ∙ list-fetched (retiOf (b .decoder) byte) (there b) ∙ rw (reti-is (b .decoder) (k .history) (u .memory) byte, ← serving-is (ports b), u .list);
+  memory = next-is (b .decoder) (k .history) (u .memory) byte;
+}
+look-taken b acknowledge v r k u = record {
+  list = list-taken b acknowledge ∙ list-acknowledged (there b) ∙ rw (← serving-is (ports b), u .list) (byCases (asks (ports b)) (λ e. rw e) (λ e. rw e));
+  memory = refl;
+}
+look-taken b (at place e) v r k u = record {
+  list = list-taken b (at place e)
+      ∙ ap (λ (s : List Bool). reverse (places s)) (same-at (changed (sideOf place) e) (changed-under (sideOf place) e) (place / 2) (there b))
+      ∙ rw (← serving-is (ports b)) (u .list);
+  memory = u .memory;
+}
 
 -- ---- a step: refused events count for nothing
 refused-seen : (e a : List ℕ) (k : Kept) → ltb 15 (code a) ≡ true → k ≡ see e a k
 unfolding if_then_else_
 refused-seen e a k h = rw h
 
-module _ (b : Board) (e : List ℕ) (four : length e ≡ 4) where
-  look-accepted : (refusal b e is 0) ≡ true → found (stepOf b e .board) ≡ see e (bytesOf (stepOf b e .answer)) (found b)
+module _ (b : Board) (e : List ℕ) (k : Kept) (u : Current b k) where
+  look-accepted : length e ≡ 4 → (refusal b e is 0) ≡ true → Current (stepOf b e .board) (see e (bytesOf (stepOf b e .answer)) k)
   unfolding accepted bytesOf
-  look-accepted h =
+  look-accepted four h =
       let low = not-true (ltb 15 (stepOf b e .answer .code)) (accepted-code b e four (λ n. not (ltb 15 n)) refl h) in
-      rw (see-doing e (bytesOf (stepOf b e .answer)) (found b) low, step-accepted b e four h)
-      (look-taken b (doingOf e) (valueOf e) (requestOf (taken b (doingOf e))))
+      rw (see-doing e (bytesOf (stepOf b e .answer)) k low, step-accepted b e four h)
+      (look-taken b (doingOf e) (valueOf e) (requestOf (taken b (doingOf e))) k u)
 
-  look-refused : (refusal b e is 0) ≡ false → found (stepOf b e .board) ≡ see e (bytesOf (stepOf b e .answer)) (found b)
+  look-refused : length e ≡ 4 → (refusal b e is 0) ≡ false → Current (stepOf b e .board) (see e (bytesOf (stepOf b e .answer)) k)
   unfolding refused bytesOf
-  look-refused h =
-      ap (λ (s : Stepped). found (s .board)) (step-refused b e four h)
-      ∙ refused-seen e (bytesOf (stepOf b e .answer)) (found b) (refused-each b e four (ltb 15) refl h)
+  look-refused four h =
+      rw (← refused-seen e (bytesOf (stepOf b e .answer)) k (refused-each b e four (ltb 15) refl h), step-refused b e four h) u
 
-look-step : (b : Board) (e : List ℕ) → found (stepOf b e .board) ≡ see e (bytesOf (stepOf b e .answer)) (found b)
-unfolding bytesOf
-look-step b e = byCases (length e is 4)
-    (λ f. let four = eqb-true (length e) 4 f in byCases (refusal b e is 0) (look-accepted b e four) (look-refused b e four))
-    (λ f. rw (not-four-bytes b e f) (refused-seen e (32 ∷ 0 ∷ 0 ∷ 0 ∷ []) (found b) refl))
+  pub look-step : Current (stepOf b e .board) (see e (bytesOf (stepOf b e .answer)) k)
+  unfolding bytesOf
+  look-step = byCases (length e is 4)
+      (λ f. let four = eqb-true (length e) 4 f in byCases (refusal b e is 0) (look-accepted four) (look-refused four))
+      (λ f. rw (not-four-bytes b e f, ← refused-seen e (32 ∷ 0 ∷ 0 ∷ 0 ∷ []) k refl) u)
 
 -- ---- a session, from any board on
-pub look-run : (b : Board) (es : List (List ℕ)) → found (stepsOf b es) ≡ seeAll es (records (answersOf b es)) (found b)
+pub look-run : (b : Board) (es : List (List ℕ)) (k : Kept) → Current b k → Current (stepsOf b es) (seeAll es (records (answersOf b es)) k)
 unfolding stepsOf answersOf records bytesOf
-look-run b [] = refl
-look-run b (e ∷ es) = rw (look-run (stepOf b e .board) es, look-step b e)
+look-run b [] k u = u
+look-run b (e ∷ es) k u = look-run (stepOf b e .board) es (see e (bytesOf (stepOf b e .answer)) k) (look-step b e k u)

@@ -2,7 +2,7 @@
 -- Assumes nothing.
 use mathlib.Core.Path.{_≡_, refl, sym, _∙_}
 use mathlib.Core.Bool.{Bool, true, false, _&&_, not}
-use mathlib.Core.List.{List, [], _∷_, _++_, map, reverse, dropLast}
+use mathlib.Core.List.{List, [], _∷_, _++_, map, dropLast}
 use Prim.Native.Nat.{ℕ, suc, _≤_, _<_}
 use native.Mathlib.Omega.{arith}
 use lib.Dec.{ltb, leb·suc-suc, leb·zero}
@@ -12,9 +12,10 @@ use Rattle.bits.specs.Bits.{if_then_else_}
 use Rattle.bits.proofs.Logic.{byCases}
 use Rattle.port.specs.Rules.{served, released}
 use Rattle.port.specs.declared.Port.{Port}
-use Rattle.chain.specs.Places.{first, places, adjust}
+use Rattle.chain.specs.Places.{first, adjust}
 use Rattle.chain.specs.Chain.{ready, under, asking, asker, asks, holder}
 use Rattle.chain.proofs.Places.{adjust-beyond}
+use Rattle.demands.proofs.Same.{farthest}
 use Rattle.demands.proofs.Places.{first-set, first-clear, first-short, farthest-set, farthest-clear, bits-set}
 
 -- behind a port under service nobody asks
@@ -60,9 +61,6 @@ unfolding if_then_else_
 asks-no ps h = let e = sym (asks-is ps) ∙ h in asker-is ps ∙ rw e
 
 -- ---- the places under service, farthest first, after an acknowledge and after a RETI
-abbrev pub farthest : List Port → List ℕ
-farthest ps = reverse (places (map under ps))
-
 pub farthest-served : (ps : List Port) → farthest (adjust served (asker ps) ps) ≡ (if asks ps then farthest ps ++ (asker ps ∷ []) else farthest ps)
 unfolding if_then_else_
 farthest-served ps = byCases (asks ps)

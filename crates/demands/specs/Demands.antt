@@ -1,24 +1,20 @@
 -- What the owner asks: the three demands, of the product's own step and run, in quotes as the owner or document 01 says them.
--- Words.antt, Observer.antt and Sessions.antt have the words, the observer and the sessions; proofs/ has a proof of each statement.
+-- Words.antt and Observer.antt have the words and the observer. Each statement is part of what `kept_promises` ensures.
 -- Assumes nothing.
 use mathlib.Core.Path.{_≡_}
 use mathlib.Core.Bool.{true, false}
-use mathlib.Core.List.{List, [], _∷_, map, dropLast}
+use mathlib.Core.List.{List, [], _∷_, dropLast}
 use Prim.Native.Nat.{ℕ, _*_, _≤_}
-use lib.ListN.{length}
+use lib.ListN.{length, set}
 use Rattle.bits.specs.Bits.{if_then_else_, _is_}
 use Rattle.buffers.specs.Splice.{splice}
-use Rattle.port.specs.Rules.{served}
-use Rattle.chain.specs.Places.{adjust}
-use Rattle.chain.specs.Decode.{retiOf}
 use Rattle.board.specs.declared.Board.{Board}
 use Rattle.board.specs.Board.{ports, portAt, soundBoard, freshOf, requestOf}
 use Rattle.board.specs.Step.{placeOf, valueOf, lines, answer, stepOf}
 use Rattle.records.specs.Records.{records, bytesOf, stepsOf, answersOf}
 use Rattle.run.specs.Run.{runLines, ranOf, bufferOf}
-use Rattle.demands.specs.Observer.{Kept, nothing}
-use Rattle.demands.specs.Words.{stepCodes, runCodes, listed, decides, acknowledge, underService, found, kept, Nearing, nearest, turn, allBytes}
-use Rattle.demands.specs.Sessions.{given, rows}
+use Rattle.demands.specs.Observer.{Kept, nothing, decoded}
+use Rattle.demands.specs.Words.{stepCodes, runCodes, listed, decides, acknowledge, fetch, underService, Nearing, nearest, turn, answering, remembered, found, kept, allBytes}
 
 -- ---- DEMAND 1. Every event and every board has an answer, bad ones are refused by number, and a refused event changes nothing.
 -- A step of four bytes: the code is one of the table's; "each is given exactly when its line is true and no earlier one is"; "every
@@ -50,24 +46,19 @@ pub record AnsweredRun (b : Board) (es old : List ℕ) (start : ℕ) : Type 0 wh
 abbrev pub EveryRun : Type 0
 EveryRun = (b : Board) (es old : List ℕ) (start : ℕ) → AnsweredRun b es old start
 
--- ---- DEMAND 2. After each event registers, lines, Ready, request and vector are those of the papers. Every contract is an equation
--- with a definition, or a pair of them, so two results that meet it are equal; and the sessions come out as the papers say.
-abbrev pub OnlyOne : Type 0 → Type 0 → Type 0
-OnlyOne X R = (f : X → R) (x : X) (r s : R) → r ≡ f x → s ≡ f x → r ≡ s
-
-abbrev pub OnlyPair : Type 0 → Type 0 → Type 0 → Type 0
-OnlyPair X R L = (f : X → R) (g : X → L) (x : X) (r s : R) (l m : L) → (r ≡ f x) × (l ≡ g x) → (s ≡ f x) × (m ≡ g x) → (r ≡ s) × (l ≡ m)
-
-abbrev pub SessionsHold : Type 0
-SessionsHold = map given rows ≡ rows
+-- ---- DEMAND 2. After each event registers, lines, Ready, request and vector are those of the papers: each contract is an equation with
+-- a definition that follows them, the crates `sessions` and `meaning` say what those definitions come to, and `calls` that only one
+-- result meets the contract of an exported function.
 
 -- ---- DEMAND 3. An observer keeps a list: an answered acknowledge adds its port at the end, a decoded RETI removes the last, a reset
 -- empties it, and what is refused counts for nothing. Of a board of n ports: "the ports under service are always exactly that list,
--- each nearer the CPU than the one before, never longer than the number of ports".
+-- each nearer the CPU than the one before, never longer than the number of ports". `memory`: the board remembers of the fetched bytes
+-- what the observer makes of them.
 pub record Listed (n : ℕ) (b : Board) (k : Kept) : Type 0 where
-  pub exactly : found b ≡ k
+  pub exactly : underService b ≡ k .list
   pub order : Nearing n (k .list)
   pub short : length (k .list) ≤ n
+  pub memory : b .decoder .prefix ≡ remembered (k .history)
 
 -- "An acknowledge goes to the nearest enabled waiting port if that stands nearer than all in the list, otherwise to nobody": `answers`
 -- has its bytes, `serves` the ports after it, where the one that answers "no longer waits and is under service" and no other changes.
@@ -76,18 +67,26 @@ pub record Demand3 (n : ℕ) (b : Board) (k : Kept) : Type 0 where
   pub sound : soundBoard b ≡ true
   pub keeps : Listed n b k
   pub answers : bytesOf (stepOf b acknowledge .answer)
-      ≡ (if turn n b k then 2 ∷ nearest b ∷ portAt b (nearest b) .vector ∷ 0 ∷ [] else 3 ∷ 0 ∷ 255 ∷ 0 ∷ [])
-  pub serves : ports (stepOf b acknowledge .board) ≡ (if turn n b k then adjust served (nearest b) (ports b) else ports b)
-  pub releases : (byte : ℕ) → retiOf (k .decoder) byte ≡ true → underService (stepOf b (1 ∷ 0 ∷ byte ∷ 0 ∷ []) .board) ≡ dropLast (k .list)
+      ≡ (if turn n b (k .list) then 2 ∷ nearest b ∷ portAt b (nearest b) .vector ∷ 0 ∷ [] else 3 ∷ 0 ∷ 255 ∷ 0 ∷ [])
+  pub serves : ports (stepOf b acknowledge .board)
+      ≡ (if turn n b (k .list) then set (ports b) (nearest b) (answering (portAt b (nearest b))) else ports b)
+  pub releases : (byte : ℕ) → decoded (k .history) byte ≡ true → underService (stepOf b (fetch byte) .board) ≡ dropLast (k .list)
 
 -- From a fresh board and any sequence of events, refused ones among them.
 abbrev pub FromFresh : Type 0
 FromFresh = (n : ℕ) (es : List (List ℕ)) → freshOf n .code ≡ 0 → allBytes es ≡ true → Demand3 (n * 2) (stepsOf (freshOf n .board) es) (kept nothing (freshOf n .board) es)
 
--- From any sound board on, the list started by the ports then under service.
+-- From any sound board on, whose decoder remembers some history: the list is started by the ports then under service.
 abbrev pub FromSound : Type 0
-FromSound = (b : Board) (es : List (List ℕ)) → soundBoard b ≡ true → allBytes es ≡ true → Demand3 (length (ports b)) (stepsOf b es) (kept (found b) b es)
+FromSound = (b : Board) (history : List ℕ) (es : List (List ℕ)) → soundBoard b ≡ true → b .decoder .prefix ≡ remembered history → allBytes es ≡ true
+    → Demand3 (length (ports b)) (stepsOf b es) (kept (found history b) b es)
 
--- The list by itself, from any board at all and with no condition: on a board that is not sound every event is refused.
+-- The list by itself, from any such board, sound or not and with any numbers for events: on a board that is not sound every event is refused.
 abbrev pub FromAny : Type 0
-FromAny = (b : Board) (es : List (List ℕ)) → Listed (length (ports b)) (stepsOf b es) (kept (found b) b es)
+FromAny = (b : Board) (history : List ℕ) (es : List (List ℕ)) → b .decoder .prefix ≡ remembered history
+    → Listed (length (ports b)) (stepsOf b es) (kept (found history b) b es)
+
+-- A decoder that holds neither 0 nor 1 remembers no history of fetched bytes. The next fetch shuts it and releases nobody.
+abbrev pub NoHistory : Type 0
+NoHistory = (b : Board) (byte : ℕ) → soundBoard b ≡ true → 2 ≤ b .decoder .prefix
+    → (underService (stepOf b (fetch byte) .board) ≡ underService b) × (stepOf b (fetch byte) .board .decoder .prefix ≡ 0)

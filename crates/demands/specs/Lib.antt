@@ -1,4 +1,3 @@
-pub mod Sessions
 pub mod Observer
 pub mod Words
 pub mod Demands

@@ -1,22 +1,19 @@
 // The board is lent: each function takes a board that stays where its caller keeps it, calls the functions on values and stores what
 // they give. Document 01, "The board is lent to the step and altered there". The functions whose names begin with pio_ are for C and
-// Rust to link; include/pio.h says in words what each answers and refuses.
+// Rust to link; include/pio.h says in words what each answers and refuses, and specs/Calls.antt what it promises.
 use board::Answer;
 use board::Board;
 ghost use mathlib.Core.Path.{_≡_};
 ghost use lib.Dec.{leb};
 ghost use lib.ListN.{length};
-ghost use Rattle.board.specs.Board.{freshOf};
 ghost use Rattle.records.specs.Records.{bytesOf};
-ghost use Rattle.run.specs.Run.{ranOf, bufferOf};
-ghost use Rattle.recording.specs.Wave.{exportedOf, pageOf};
-ghost use Rattle.pio.specs.Lent.{lentOf, lentLines, linesBytes, written};
+ghost use Rattle.pio.specs.Lent.{lentLines, linesBytes, written};
+ghost use Rattle.pio.specs.Calls.{FreshCall, StepCall, RunCall, WaveCall, LinesCall};
 
 // A fresh board of `size` chips; 33 and a board of size 0 for a size that no board has.
 #[no_mangle]
 pub extern "C" fn pio_fresh(board: &mut Board, size: usize) -> u8
-    ensures { λ r. ⌜ r ≡ freshOf size .code ⌝ }
-    ensures { λ _. ⌜ now (board .exit) ≡ freshOf size .board ⌝ }
+    ensures { λ r. ⌜ FreshCall size r (now (board .exit)) ⌝ }
 {
     let m = board::fresh(size);
     *board = m.board;
@@ -42,9 +39,7 @@ fn put_answer(out: &mut [u8], a: Answer) -> u8
 // One step, with its answer's four bytes at the start of `answer`. A shorter buffer is refused with 34 before all else.
 #[no_mangle]
 pub extern "C" fn pio_step(board: &mut Board, event: &[u8], answer: &mut [u8]) -> u8
-    ensures { λ r. ⌜ r ≡ lentOf (now (board .entry)) (now (event .entry)) (length (now (answer .entry))) .answer .code ⌝ }
-    ensures { λ _. ⌜ now (board .exit) ≡ lentOf (now (board .entry)) (now (event .entry)) (length (now (answer .entry))) .board ⌝ }
-    ensures { λ _. ⌜ now (answer .exit) ≡ written (now (answer .entry)) (bytesOf (lentOf (now (board .entry)) (now (event .entry)) (length (now (answer .entry))) .answer)) ⌝ }
+    ensures { λ r. ⌜ StepCall (now (board .entry)) (now (event .entry)) (now (answer .entry)) r (now (board .exit)) (now (answer .exit)) ⌝ }
 {
     if has_room(answer.len(), 4) {
         let a = lent::step(board, event);
@@ -63,10 +58,7 @@ pub extern "C" fn pio_run(
     start: usize,
     records: &mut usize,
 ) -> u8
-    ensures { λ r. ⌜ r ≡ ranOf (now (board .entry)) (now (events .entry)) (now (answers .entry)) start .code ⌝ }
-    ensures { λ _. ⌜ now (board .exit) ≡ ranOf (now (board .entry)) (now (events .entry)) (now (answers .entry)) start .board ⌝ }
-    ensures { λ _. ⌜ now (records .exit) ≡ ranOf (now (board .entry)) (now (events .entry)) (now (answers .entry)) start .records ⌝ }
-    ensures { λ _. ⌜ now (answers .exit) ≡ bufferOf (now (board .entry)) (now (events .entry)) (now (answers .entry)) start ⌝ }
+    ensures { λ r. ⌜ RunCall (now (board .entry)) (now (events .entry)) (now (answers .entry)) start r (now (board .exit)) (now (answers .exit)) (now (records .exit)) ⌝ }
 {
     let r = run::run(*board, events, answers, start);
     *board = r.board;
@@ -83,10 +75,7 @@ pub extern "C" fn pio_wave(
     text: &mut [u8],
     written: &mut usize,
 ) -> u8
-    ensures { λ r. ⌜ r ≡ exportedOf (now (board .entry)) (now (events .entry)) (now (stamps .entry)) (length (now (text .entry))) .code ⌝ }
-    ensures { λ _. ⌜ now (board .exit) ≡ exportedOf (now (board .entry)) (now (events .entry)) (now (stamps .entry)) (length (now (text .entry))) .board ⌝ }
-    ensures { λ _. ⌜ now (written .exit) ≡ exportedOf (now (board .entry)) (now (events .entry)) (now (stamps .entry)) (length (now (text .entry))) .length ⌝ }
-    ensures { λ _. ⌜ now (text .exit) ≡ pageOf (now (board .entry)) (now (events .entry)) (now (stamps .entry)) (now (text .entry)) ⌝ }
+    ensures { λ r. ⌜ WaveCall (now (board .entry)) (now (events .entry)) (now (stamps .entry)) (now (text .entry)) r (now (board .exit)) (now (text .exit)) (now (written .exit)) ⌝ }
 {
     let r = recording::export(*board, events, stamps, text);
     *board = r.board;
@@ -112,8 +101,7 @@ fn put_lines(board: Board, place: usize, out: &mut [u8]) -> u8
 // The lines driven at a place: two bytes at the start of `lines`.
 #[no_mangle]
 pub extern "C" fn pio_lines(board: &Board, place: usize, lines: &mut [u8]) -> u8
-    ensures { λ r. ⌜ r ≡ lentLines (now (board .entry)) place (length (now (lines .entry))) .code ⌝ }
-    ensures { λ _. ⌜ now (lines .exit) ≡ written (now (lines .entry)) (linesBytes (lentLines (now (board .entry)) place (length (now (lines .entry))))) ⌝ }
+    ensures { λ r. ⌜ LinesCall (now (board .entry)) place (now (lines .entry)) r (now (lines .exit)) ⌝ }
 {
     put_lines(*board, place, lines)
 }

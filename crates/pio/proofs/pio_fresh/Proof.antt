@@ -34,7 +34,7 @@ use denote.Triple.Statement.{Contract, Triple}
 use denote.Triple.Call.{calls-at}
 use denote.Triple.Clauses.{ensured, lasts}
 use denote.Triple.Table.{entered, cited}
-use denote.Triple.Walked.{Stays, gave-ref, stay-dropped, walkOf, AllGo, goes-gave-ref, goes-dropped, Walks, ends-at, walked, walk-meets}
+use denote.Triple.Walked.{Stays, gave-ref, stay-dropped, walkOf, AllGo, goes-gave-ref, goes-dropped, Walks, ends-at, walked, walk-meets, says}
 use denote.Exit.{yes}
 use Rattle.board.specs.Board.{freshOf}
 use Rattle.board.specs.declared.Board.{Board}
@@ -47,7 +47,6 @@ use Rattle.board.proofs.fresh as fresh
 use Rattle.board.proofs.fresh.Symbol as fresh-def
 use Rattle.board.proofs.fresh.Symbol.{name as #fresh}
 use Rattle.board.proofs.fresh.Met as fresh-thm
-use Rattle.lent.proofs.Claims.{says-two}
 use Rattle.pio.proofs.pio_fresh.Key.{name as #lent}
 use Rattle.pio.proofs.pio_fresh as lent
 use Rattle.pio.proofs.pio_fresh.Statement as stated
@@ -92,7 +91,7 @@ module _ {M : Type 1} (𝓤 : URA M) (H : Heap 𝓤) (A : Atoms 𝓤) (W : Given
   exits r eq is =
       qed W (‵ (fobs γ (T.the-row .coded .code (r .board))) ∷ ‵ (flft κ q) ∷ ‵ ftrue ∷ []) ∵
       suffices ! _ (ends-at 𝓤 H A lent.ended stayed (lent.clauses 𝓤 H A mem run) W (((κ, tt), (q, tt), tt, x, at), tt) _ (r .code) (r .board, (tt, tt)) (tt, (tt, tt))) $
-      says-two ! (ap (λ (m : Made). m .code) eq) (ap (λ (m : Made). m .board) eq) $ move ! (1 ∷ 2 ∷ []) $ join ! $ frame ! $
+      says ! (record { code = ap (λ (m : Made). m .code) eq; board = ap (λ (m : Made). m .board) eq }) $ move ! (1 ∷ 2 ∷ []) $ join ! $ frame ! $
       owned ! u8 (Is u8) (uint-makes 𝓤 H A W w8) (r .code) _ is $ nothing ! $ nothing ! $ fjoin ! $ move ! (2 ∷ []) $
       use1 W (‵ (fres γ (T.the-row .coded .code (r .board)))) (W .names .obs-res γ (T.the-row .coded .code (r .board))) $ fjoin ! $ done !
 

@@ -36,7 +36,7 @@ use denote.Triple.Statement.{Contract, Triple}
 use denote.Triple.Call.{calls-at}
 use denote.Triple.Clauses.{Lasts, ensured, lasts}
 use denote.Triple.Table.{entered, cited}
-use denote.Triple.Walked.{Stays, gave-slice, stay-dropped, walkOf, AllGo, goes-gave-slice, goes-dropped, Walks, ends-at, walked, walk-meets}
+use denote.Triple.Walked.{Stays, gave-slice, stay-dropped, walkOf, AllGo, goes-gave-slice, goes-dropped, Walks, ends-at, walked, walk-meets, says}
 use denote.Exit.{yes}
 use Rattle.board.specs.declared.Board.{Board}
 use Rattle.board.specs.declared.Lines.{Lines}
@@ -47,7 +47,6 @@ use Rattle.pio.proofs.put_lines as put
 use Rattle.pio.proofs.put_lines.Symbol as put-def
 use Rattle.pio.proofs.put_lines.Symbol.{name as #put}
 use Rattle.pio.proofs.put_lines.Met as put-thm
-use Rattle.lent.proofs.Claims.{says-two}
 use Rattle.pio.proofs.pio_lines.Key.{name as #lent}
 use Rattle.pio.proofs.pio_lines as lent
 use Rattle.pio.proofs.pio_lines.Statement as stated
@@ -94,7 +93,7 @@ module _ {M : Type 1} (𝓤 : URA M) (H : Heap 𝓤) (A : Atoms 𝓤) (W : Given
   exits r zs e₁ e₂ l is =
       qed W (‵ (flft κ q) ∷ (‵ (flft κ′ q′) ⊛ ‵ ftrue) ∷ ‵ (finally u8 (z .name) zs) ∷ []) ∵
       suffices ! _ (ends-at 𝓤 H A lent.ended stayed (lent.clauses 𝓤 H A mem run) W (((κ, (κ′, tt)), (q, (q′, tt)), tt, x, at), tt) _ r (tt, (tt, (zs, tt))) (tt, (tt, (l, tt)))) $
-      says-two ! e₁ e₂ $ join ! $ frame ! $ owned ! u8 (Is u8) (uint-makes 𝓤 H A W w8) r _ is $ nothing ! $ move ! (2 ∷ 0 ∷ []) $ fjoin ! $ nothing ! $ fjoin ! $ nothing ! $ fjoin ! $ done !
+      says ! (record { code = e₁; buffer = e₂ }) $ join ! $ frame ! $ owned ! u8 (Is u8) (uint-makes 𝓤 H A W w8) r _ is $ nothing ! $ move ! (2 ∷ 0 ∷ []) $ fjoin ! $ nothing ! $ fjoin ! $ nothing ! $ fjoin ! $ done !
 
   module _ (C : Calls 𝓤 H) (Λ : Loops 𝓤 H) (fm : FmC 𝓤 H (W .laws) C) (known : Triple 𝓤 (C #put) (Put 𝓤 H A mem run)) where
     walk : Is usize n (vint w64 n ∷ []) → Room u8 (length (now z)) → ent 𝓤 (onEntry 𝓤 H A lent.signature (κ, (κ′, tt)) (q, (q′, tt)) x at) (WpFn 𝓤 H C Λ code.function (vptr b o ∷ vint w64 n ∷ only (slice-vals z) ∷ []) Post)

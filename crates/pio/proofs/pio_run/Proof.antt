@@ -36,7 +36,7 @@ use denote.Triple.Statement.{Contract, Triple}
 use denote.Triple.Call.{calls-at}
 use denote.Triple.Clauses.{Lasts, ensured, lasts}
 use denote.Triple.Table.{entered, cited}
-use denote.Triple.Walked.{Stays, gave-ref, gave-slice, stay-dropped, walkOf, AllGo, goes-gave-ref, goes-gave-slice, goes-dropped, Walks, ends-at, walked, walk-meets}
+use denote.Triple.Walked.{Stays, gave-ref, gave-slice, stay-dropped, walkOf, AllGo, goes-gave-ref, goes-gave-slice, goes-dropped, Walks, ends-at, walked, walk-meets, says}
 use denote.Exit.{yes}
 use Rattle.board.specs.declared.Board.{Board}
 use Rattle.run.specs.declared.Ran.{Ran}
@@ -49,7 +49,6 @@ use Rattle.run.proofs.run as value
 use Rattle.run.proofs.run.Symbol as value-def
 use Rattle.run.proofs.run.Symbol.{name as #value}
 use Rattle.run.proofs.run.Met as value-thm
-use Rattle.lent.proofs.Claims.{says-four}
 use Rattle.pio.proofs.pio_run.Key.{name as #lent}
 use Rattle.pio.proofs.pio_run as lent
 use Rattle.pio.proofs.pio_run.Statement as stated
@@ -100,7 +99,7 @@ module _ {M : Type 1} (𝓤 : URA M) (H : Heap 𝓤) (A : Atoms 𝓤) (W : Given
   exits r zs eq fill l is =
       qed W (‵ (fres γ (T.the-row .coded .code (r .board))) ∷ ‵ (fobs γ′ (usize .coded .code (r .records))) ∷ ‵ (flft κ q) ∷ (‵ (flft κ′ q′) ⊛ ‵ (flft κ″ q″) ⊛ ‵ ftrue) ∷ ‵ (flft κ‴ q‴) ∷ ‵ ftrue ∷ ‵ (finally u8 (z .name) zs) ∷ []) ∵
       suffices ! _ (ends-at 𝓤 H A lent.ended stayed (lent.clauses 𝓤 H A mem run) W (((κ, (κ′, (κ″, (κ‴, tt)))), (q, (q′, (q″, (q‴, tt)))), tt, x, at), tt) _ (r .code) (r .board, (tt, (zs, (tt, (r .records, tt))))) (tt, (tt, (l, (tt, (tt, tt)))))) $
-      says-four ! (ap (λ (s : Ran). s .code) eq) (ap (λ (s : Ran). s .board) eq) (ap (λ (s : Ran). s .records) eq) fill $
+      says ! (record { code = ap (λ (s : Ran). s .code) eq; board = ap (λ (s : Ran). s .board) eq; buffer = fill; count = ap (λ (s : Ran). s .records) eq }) $
       -- the tokens
       move ! (3 ∷ []) $ split ! $ move ! (1 ∷ []) $ split ! $ move ! (6 ∷ 7 ∷ []) $ join ! $ move ! (1 ∷ 0 ∷ []) $ join ! $ move ! (2 ∷ 0 ∷ []) $ join ! $ move ! (4 ∷ 0 ∷ []) $ join ! $ frame ! $
       -- [true; the last board; records' obs; the last answers]

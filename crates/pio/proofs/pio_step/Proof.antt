@@ -38,7 +38,7 @@ use denote.Triple.Statement.{Contract, Triple}
 use denote.Triple.Call.{calls-at}
 use denote.Triple.Clauses.{Lasts, ensured, lasts}
 use denote.Triple.Table.{entered, cited}
-use denote.Triple.Walked.{Stays, gave-ref, gave-slice, stay-dropped, walkOf, AllGo, goes-gave-ref, goes-gave-slice, goes-dropped, Walks, ends-at, walked, walk-meets}
+use denote.Triple.Walked.{Stays, gave-ref, gave-slice, stay-dropped, walkOf, AllGo, goes-gave-ref, goes-gave-slice, goes-dropped, Walks, ends-at, walked, walk-meets, says}
 use denote.Exit.{yes}
 use Rattle.board.specs.declared.Board.{Board}
 use Rattle.board.specs.declared.Answer.{Answer}
@@ -61,7 +61,7 @@ use Rattle.pio.proofs.put_answer as put
 use Rattle.pio.proofs.put_answer.Symbol as put-def
 use Rattle.pio.proofs.put_answer.Symbol.{name as #put}
 use Rattle.pio.proofs.put_answer.Met as put-thm
-use Rattle.lent.proofs.Claims.{holds, fails, says-three}
+use Rattle.lent.proofs.Claims.{holds, fails}
 use Rattle.pio.proofs.Rooms.{with-room, without-room, nothing-written}
 use Rattle.pio.proofs.pio_step.Key.{name as #lent}
 use Rattle.pio.proofs.pio_step as lent
@@ -138,7 +138,7 @@ module _ {M : Type 1} (𝓤 : URA M) (H : Heap 𝓤) (A : Atoms 𝓤) (W : Given
   exits s r zs eq e₁ e₂ l is =
       qed W (‵ (fres γ (T.the-row .coded .code (s .board))) ∷ (‵ (flft κ q) ⊛ ‵ (flft κ′ q′) ⊛ ‵ ftrue) ∷ (‵ (flft κ″ q″) ⊛ ‵ ftrue) ∷ ‵ (finally u8 (z .name) zs) ∷ []) ∵
       suffices ! _ (ends-at 𝓤 H A lent.ended stayed (lent.clauses 𝓤 H A mem run) W (((κ, (κ′, (κ″, tt))), (q, (q′, (q″, tt))), tt, x, at), tt) _ r (s .board, (tt, (zs, tt))) (tt, (tt, (l, tt)))) $
-      says-three ! (e₁ ∙ ap (λ (c : Stepped). c .answer .code) eq) (ap (λ (c : Stepped). c .board) eq) (e₂ ∙ ap (λ (c : Stepped). written (now z) (bytesOf (c .answer))) eq) $
+      says ! (record { code = e₁ ∙ ap (λ (c : Stepped). c .answer .code) eq; board = ap (λ (c : Stepped). c .board) eq; buffer = e₂ ∙ ap (λ (c : Stepped). written (now z) (bytesOf (c .answer))) eq }) $
       move ! (1 ∷ []) $ split ! $ move ! (1 ∷ []) $ split ! $ move ! (0 ∷ 4 ∷ []) $ join ! $ move ! (2 ∷ 0 ∷ []) $ join ! $ frame ! $
       owned ! u8 (Is u8) (uint-makes 𝓤 H A W w8) r _ is $ move ! (3 ∷ 1 ∷ []) $ fjoin ! $ nothing ! $ fjoin ! $ move ! (2 ∷ []) $ fjoin ! $ done !
 

@@ -36,7 +36,7 @@ use denote.Triple.Statement.{Contract, Triple}
 use denote.Triple.Call.{calls-at}
 use denote.Triple.Clauses.{Lasts, ensured, lasts}
 use denote.Triple.Table.{entered, cited}
-use denote.Triple.Walked.{Stays, gave-ref, gave-slice, stay-dropped, walkOf, AllGo, goes-gave-ref, goes-gave-slice, goes-dropped, Walks, ends-at, walked, walk-meets}
+use denote.Triple.Walked.{Stays, gave-ref, gave-slice, stay-dropped, walkOf, AllGo, goes-gave-ref, goes-gave-slice, goes-dropped, Walks, ends-at, walked, walk-meets, says}
 use denote.Exit.{yes}
 use Rattle.board.specs.declared.Board.{Board}
 use Rattle.recording.specs.declared.Exported.{Exported}
@@ -49,7 +49,6 @@ use Rattle.recording.proofs.export as value
 use Rattle.recording.proofs.export.Symbol as value-def
 use Rattle.recording.proofs.export.Symbol.{name as #value}
 use Rattle.recording.proofs.export.Met as value-thm
-use Rattle.lent.proofs.Claims.{says-four}
 use Rattle.pio.proofs.pio_wave.Key.{name as #lent}
 use Rattle.pio.proofs.pio_wave as lent
 use Rattle.pio.proofs.pio_wave.Statement as stated
@@ -100,7 +99,7 @@ module _ {M : Type 1} (𝓤 : URA M) (H : Heap 𝓤) (A : Atoms 𝓤) (W : Given
   exits r zs eq fill l is =
       qed W (‵ (fres γ (T.the-row .coded .code (r .board))) ∷ ‵ (fobs γ′ (usize .coded .code (r .length))) ∷ ‵ (flft κ₀ q₀) ∷ (‵ (flft κ₁ q₁) ⊛ ‵ (flft κ₂ q₂) ⊛ ‵ (flft κ₃ q₃) ⊛ ‵ ftrue) ∷ ‵ (flft κ₄ q₄) ∷ ‵ ftrue ∷ ‵ (finally u8 (z .name) zs) ∷ []) ∵
       suffices ! _ (ends-at 𝓤 H A lent.ended stayed (lent.clauses 𝓤 H A mem run) W (((κ₀, (κ₁, (κ₂, (κ₃, (κ₄, tt))))), (q₀, (q₁, (q₂, (q₃, (q₄, tt))))), tt, x, at), tt) _ (r .code) (r .board, (tt, (tt, (zs, (r .length, tt))))) (tt, (tt, (tt, (l, (tt, tt)))))) $
-      says-four ! (ap (λ (s : Exported). s .code) eq) (ap (λ (s : Exported). s .board) eq) (ap (λ (s : Exported). s .length) eq) fill $
+      says ! (record { code = ap (λ (s : Exported). s .code) eq; board = ap (λ (s : Exported). s .board) eq; buffer = fill; count = ap (λ (s : Exported). s .length) eq }) $
       -- the tokens
       move ! (3 ∷ []) $ split ! $ move ! (1 ∷ []) $ split ! $ move ! (1 ∷ []) $ split ! $ move ! (7 ∷ 8 ∷ []) $ join ! $ move ! (1 ∷ 0 ∷ []) $ join ! $ move ! (2 ∷ 0 ∷ []) $ join ! $ move ! (2 ∷ 0 ∷ []) $ join ! $ move ! (4 ∷ 0 ∷ []) $ join ! $ frame ! $
       -- [true; the last board; written's obs; the last text]

@@ -1,0 +1,4 @@
+pub mod Buffers
+pub mod Answers
+pub mod Session
+pub mod Promise
