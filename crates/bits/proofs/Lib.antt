@@ -2,4 +2,3 @@ pub mod Logic
 pub mod Tests
 pub mod BitLaws
 pub mod Match
-pub mod Meaning

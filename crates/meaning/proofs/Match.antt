@@ -1,5 +1,4 @@
--- The match in plain words, for a reader: OR is "there is a line that counts at the active level", AND is "some line counts, and
--- each that counts is at the active level" (`or-match`, `and-match`).
+-- The match in plain words, line by line.
 -- Assumes nothing.
 use mathlib.Core.Path.{_≡_, refl, sym, subst, ap, _∙_}
 use mathlib.Core.Bool.{Bool, true, false, _&&_, _||_, not, Bool·beq, false≢true}
@@ -7,9 +6,11 @@ use mathlib.Core.Logic.{_↔_, _⊎_, inl, inr, ⊎-elim}
 use Prim.Native.Nat.{ℕ, zero, suc, _<_}
 use native.Mathlib.Nat.{not-suc-le-zero, le-of-suc-le-suc, eq-or-lt-of-le, le-refl}
 use native.Mathlib.Omega.{arith}
+use borrow.Author.Tests.{not-true}
 use Rattle.bits.specs.Bits.{if_then_else_, bit, some, every}
 use Rattle.bits.specs.Lines.{counts, active, matchOf}
 use Rattle.bits.proofs.Logic.{both, join, beq-is, beq-self}
+use Rattle.meaning.specs.Match.{Counts, OrMatch, AndMatch}
 
 -- ---- Bool's own laws
 or-one : (a b : Bool) → (a || b) ≡ true → (a ≡ true) ⊎ (b ≡ true)
@@ -21,7 +22,7 @@ or-of true b s = refl
 or-of false b s = ⊎-elim (λ e. absurd (false≢true e)) (λ e. e) s
 
 -- ---- `some n f`: f holds of some number below n. `every n f`: of each
-pub some-is : (n : ℕ) (f : ℕ → Bool) → (some n f ≡ true) ↔ ((k : ℕ) × (k < n) × (f k ≡ true))
+some-is : (n : ℕ) (f : ℕ → Bool) → (some n f ≡ true) ↔ ((k : ℕ) × (k < n) × (f k ≡ true))
 some-is zero f = (λ e. absurd (false≢true e), λ r. absurd (not-suc-le-zero (r .1)))
 some-is (suc n) f = (
   λ e. ⊎-elim (λ p. let r = some-is n f .0 p in (r .0, omega (arith, r .1), r .2)) (λ q. (n, le-refl (suc n), q)) (or-one (some n f) (f n) e),
@@ -29,7 +30,7 @@ some-is (suc n) f = (
       (⊎-elim (λ e. inr (subst (λ (m : ℕ). f m ≡ true) e (r .2))) (λ l. inl (some-is n f .1 (r .0, l, r .2))) (eq-or-lt-of-le (le-of-suc-le-suc (r .1)))),
 )
 
-pub every-is : (n : ℕ) (f : ℕ → Bool) → (every n f ≡ true) ↔ ((k : ℕ) → k < n → f k ≡ true)
+every-is : (n : ℕ) (f : ℕ → Bool) → (every n f ≡ true) ↔ ((k : ℕ) → k < n → f k ≡ true)
 every-is zero f = (λ e k l. absurd (not-suc-le-zero l), λ h. refl)
 every-is (suc n) f = (
   λ e k l.
@@ -39,14 +40,6 @@ every-is (suc n) f = (
 )
 
 -- ---- a match, line by line
--- line k is an input line that is not masked
-abbrev pub Counts : ℕ → ℕ → ℕ → Type 0
-Counts select mask k = (bit k select ≡ true) × (bit k mask ≡ false)
-
-not-true : (b : Bool) → not b ≡ true → b ≡ false
-not-true true e = sym e
-not-true false e = refl
-
 counts-is : (select mask k : ℕ) → (counts select mask k ≡ true) ↔ Counts select mask k
 counts-is select mask k = (
   λ e. let b = both (bit k select) (not (bit k mask)) e in (b .0, not-true (bit k mask) (b .1)),
@@ -60,10 +53,7 @@ unless : (a b : Bool) → ((not a || b) ≡ true) ↔ (a ≡ true → b ≡ true
 unless true b = (λ e p. e, λ h. h refl)
 unless false b = (λ e p. absurd (false≢true p), λ h. refl)
 
--- OR: some line that counts is at the active level
-pub or-match :
-    (select mask lines : ℕ) (high : Bool) →
-    (matchOf select mask lines high false ≡ true) ↔ ((k : ℕ) × (k < 8) × (Counts select mask k × (bit k lines ≡ high)))
+pub or-match : OrMatch
 unfolding matchOf if_then_else_
 or-match select mask lines high = (
   λ e.
@@ -74,11 +64,7 @@ or-match select mask lines high = (
       (r .0, r .1, join (counts select mask (r .0)) (active lines high (r .0)) (counts-is select mask (r .0) .1 (r .2 .0)) (active-is lines high (r .0) .1 (r .2 .1))),
 )
 
--- AND: some line counts, and every line that counts is at the active level
-pub and-match :
-    (select mask lines : ℕ) (high : Bool) →
-    (matchOf select mask lines high true ≡ true)
-    ↔ (((k : ℕ) × (k < 8) × Counts select mask k) × ((k : ℕ) → k < 8 → Counts select mask k → bit k lines ≡ high))
+pub and-match : AndMatch
 unfolding matchOf if_then_else_
 and-match select mask lines high = (
   λ e.
