@@ -77,7 +77,7 @@ module _ (b : Board) (s : soundBoard b ≡ true) (len : length (b .chips) ≡ mo
   index : (place : ℕ) → place < b .size * 2 → place / 2 % most ≡ place / 2
   index place h = omega (arith, size-fits)
 
-  pub chips-are : (g : Doing) → quick (b .decoder) g (there b) ++ drop (b .size) (b .chips) ≡ taken b g .chips
+  chips-are : (g : Doing) → quick (b .decoder) g (there b) ++ drop (b .size) (b .chips) ≡ taken b g .chips
   unfolding taken
   chips-are g = ap (λ (l : List Chip). l ++ drop (b .size) (b .chips)) (sym (after-quick (b .decoder) g (there b) (parts b s .1)))
 

@@ -7,4 +7,3 @@ pub mod Ports
 pub mod Halves
 pub mod Plans
 pub mod Steps
-pub mod Lifted

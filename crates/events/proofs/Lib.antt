@@ -1,4 +1,3 @@
 pub mod Ways
 pub mod Keep
 pub mod Touch
-pub mod Mode2

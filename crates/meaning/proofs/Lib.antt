@@ -1,2 +1,3 @@
 pub mod Sound
 pub mod Match
+pub mod Mode2

@@ -2,8 +2,15 @@
 // does nothing; its contract is the statements, so that the check fails where one of them has no proof.
 ghost use Rattle.meaning.specs.Sound.{SoundSays};
 ghost use Rattle.meaning.specs.Match.{OrMatch, AndMatch};
+ghost use Rattle.meaning.specs.Mode2.{Mode2, Mode2Settles, Recouples, OneChip, BAnswers};
 
 // Soundness and the match, in plain words.
 pub fn plain_words()
     ensures { λ _. ⌜ SoundSays × (OrMatch × AndMatch) ⌝ }
+{}
+
+// A in mode 2, and B beside it.
+pub fn mode_two()
+    ensures { λ _. ⌜ Mode2 × (Mode2Settles × Recouples) ⌝ }
+    ensures { λ _. ⌜ OneChip × BAnswers ⌝ }
 {}
