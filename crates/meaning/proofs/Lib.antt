@@ -1,3 +1,4 @@
 pub mod Sound
 pub mod Match
 pub mod Mode2
+pub mod Settling

@@ -2,3 +2,4 @@ pub mod Words
 pub mod Sound
 pub mod Match
 pub mod Mode2
+pub mod Settling

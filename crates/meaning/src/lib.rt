@@ -3,6 +3,7 @@
 ghost use Rattle.meaning.specs.Sound.{SoundSays};
 ghost use Rattle.meaning.specs.Match.{OrMatch, AndMatch};
 ghost use Rattle.meaning.specs.Mode2.{Mode2, Mode2Settles, Recouples, OneChip, BAnswers};
+ghost use Rattle.meaning.specs.Settling.{Settles};
 
 // Soundness and the match, in plain words.
 pub fn plain_words()
@@ -13,4 +14,9 @@ pub fn plain_words()
 pub fn mode_two()
     ensures { λ _. ⌜ Mode2 × (Mode2Settles × Recouples) ⌝ }
     ensures { λ _. ⌜ OneChip × BAnswers ⌝ }
+{}
+
+// The settling after every accepted event.
+pub fn every_settling()
+    ensures { λ _. ⌜ Settles ⌝ }
 {}

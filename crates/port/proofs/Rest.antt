@@ -42,7 +42,3 @@ rests-settled f w p e =
     let m = beq-is (p .matched) (matchNow p && w) (r .0) in
     put-back p (if f then p .lines else p .input) (p .waiting || (matchNow p && w && not (p .matched))) (matchNow p && w)
     (same-input f (p .lines) (p .input) (r .1)) (rw (← m) (no-edge (p .waiting) (p .matched))) (sym m)
-
--- settling changes only the input register, waiting and the match memory: with those put back, it is the port that it was
-pub settled-only : (f w : Bool) (p : Port) → input-at (p .input) (waiting-at (p .waiting) (matched-at (p .matched) (settled f w p))) ≡ p
-settled-only f w p = refl
