@@ -1,4 +1,5 @@
 pub mod Sound
+pub mod Beyond
 pub mod Match
 pub mod Mode2
 pub mod Settling

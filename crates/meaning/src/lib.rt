@@ -1,6 +1,7 @@
 // What the definitions mean, as theorems about them: specs/ says them in document 01's words, proofs/ has the proofs. A function here
 // does nothing; its contract is the statements, so that the check fails where one of them has no proof.
 ghost use Rattle.meaning.specs.Sound.{SoundSays};
+ghost use Rattle.meaning.specs.Beyond.{NotRead, NotChanged};
 ghost use Rattle.meaning.specs.Match.{OrMatch, AndMatch};
 ghost use Rattle.meaning.specs.Mode2.{Mode2, Mode2Settles, Recouples, OneChip, BAnswers};
 ghost use Rattle.meaning.specs.Settling.{Settles};
@@ -8,6 +9,11 @@ ghost use Rattle.meaning.specs.Settling.{Settles};
 // Soundness and the match, in plain words.
 pub fn plain_words()
     ensures { λ _. ⌜ SoundSays × (OrMatch × AndMatch) ⌝ }
+{}
+
+// Places beyond the size.
+pub fn beyond_the_size()
+    ensures { λ _. ⌜ NotRead × NotChanged ⌝ }
 {}
 
 // A in mode 2, and B beside it.
