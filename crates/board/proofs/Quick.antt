@@ -113,7 +113,7 @@ taken-sound b e byte h =
     join (sizeOk (b .size)) (soundAll (there (taken b e))) (s .0)
     (rw (there-taken b e, after-quick (b .decoder) e (there b) (s .1)) (quick-sound (b .decoder) e (there b) byte (s .1)))
 
-doing-bytes : (e : List ℕ) → ltb (valueOf e) 256 ≡ true → bytesIn (doingOf e) ≡ true
+pub doing-bytes : (e : List ℕ) → ltb (valueOf e) 256 ≡ true → bytesIn (doingOf e) ≡ true
 unfolding doingOf if_then_else_
 doing-bytes e h =
     byCases (kindOf e is 0) (λ i. rw i) (λ i. rw i

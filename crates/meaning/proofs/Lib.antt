@@ -3,3 +3,6 @@ pub mod Beyond
 pub mod Match
 pub mod Mode2
 pub mod Settling
+pub mod Rows
+pub mod Bytes
+pub mod Sessions

@@ -4,3 +4,4 @@ pub mod Beyond
 pub mod Match
 pub mod Mode2
 pub mod Settling
+pub mod Sessions

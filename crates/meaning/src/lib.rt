@@ -5,6 +5,7 @@ ghost use Rattle.meaning.specs.Beyond.{NotRead, NotChanged};
 ghost use Rattle.meaning.specs.Match.{OrMatch, AndMatch};
 ghost use Rattle.meaning.specs.Mode2.{Mode2, Mode2Settles, Recouples, OneChip, BAnswers};
 ghost use Rattle.meaning.specs.Settling.{Settles};
+ghost use Rattle.meaning.specs.Sessions.{KeepsSize, KeepsBytes, KeepsReadyLow, KeepsPrefix, AfterAnySession, KeptBySessions};
 
 // Soundness and the match, in plain words.
 pub fn plain_words()
@@ -25,4 +26,10 @@ pub fn mode_two()
 // The settling after every accepted event.
 pub fn every_settling()
     ensures { λ _. ⌜ Settles ⌝ }
+{}
+
+// A board after any session.
+pub fn any_session()
+    ensures { λ _. ⌜ KeepsSize × (KeepsBytes × (KeepsReadyLow × KeepsPrefix)) ⌝ }
+    ensures { λ _. ⌜ AfterAnySession × KeptBySessions ⌝ }
 {}
