@@ -1,0 +1,4 @@
+pub mod Reader
+pub mod Recordings
+pub mod Rooms
+pub mod Writers
