@@ -2,10 +2,10 @@
 -- "The wave".
 -- Assumes nothing.
 use mathlib.Core.Path.{_≡_}
-use mathlib.Core.List.{List, [], _++_}
-use Prim.Native.Nat.{ℕ, _+_, _%_}
+use mathlib.Core.List.{List, [], _∷_, _++_}
+use Prim.Native.Nat.{ℕ, _+_, _%_, _<_}
 use lib.Dec.{ltb}
-use lib.ListN.{take}
+use lib.ListN.{length, take}
 use Rattle.bits.specs.Bits.{if_then_else_, _is_}
 use Rattle.buffers.specs.Text.{ascii}
 use Rattle.buffers.specs.Digits.{digitsOf}
@@ -23,6 +23,15 @@ keptOf limit n = if ltb n limit then n else limit + n % 4
 unfoldable pub nextAt : ℕ → ℕ → ℕ
 nextAt limit count = if ltb count limit then count else 0
 
+-- what is counted after reads of these lengths, one after the other, by a program that had counted `count`; and how long the file is
+abbrev pub countOf : ℕ → ℕ → List ℕ → ℕ
+countOf limit count [] = count
+countOf limit count (more ∷ reads) = countOf limit (keptOf limit (count + more)) reads
+
+abbrev pub total : List ℕ → ℕ
+total [] = 0
+total (more ∷ reads) = more + total reads
+
 -- the bytes before index `at` are the same
 abbrev pub SameBefore : ℕ → List ℕ → List ℕ → Type 0
 SameBefore at old new = take at new ≡ take at old
@@ -38,6 +47,28 @@ waveOf size events stamps room =
 
 unfoldable pub bufferOf : ℕ → List ℕ → List ℕ → List ℕ → List ℕ
 bufferOf size events stamps old = if freshOf size .code is 0 then pageOf (freshOf size .board) events stamps old else old
+
+-- ---- a file is refused by its own length, however long it is
+-- the first lengths, in whole records, that no recording has
+abbrev pub eventsLimit : ℕ
+eventsLimit = 65540
+
+abbrev pub stampsLimit : ℕ
+stampsLimit = 32772
+
+-- `bytes` are what is left of a file: all of it, or, of one that is too long, as many as its length is taken for
+pub record Left (limit : ℕ) (file bytes : List ℕ) : Type 0 where
+  pub counted : length bytes ≡ keptOf limit (length file)
+  pub whole : length file < limit → bytes ≡ file
+
+-- a file read in parts is taken for the same length as one that is read at once
+abbrev pub ReadInParts : Type 0
+ReadInParts = (limit : ℕ) (reads : List ℕ) → limit % 4 ≡ 0 → countOf limit 0 reads ≡ keptOf limit (total reads)
+
+-- and what is left of the two files gives the code and the length that the files themselves would
+abbrev pub ByOwnLength : Type 0
+ByOwnLength = (size : ℕ) (events stamps events′ stamps′ : List ℕ) (room : ℕ) → Left eventsLimit events events′ → Left stampsLimit stamps stamps′
+    → waveOf size events′ stamps′ room ≡ waveOf size events stamps room
 
 -- ---- "a refusal as `refused N` and a few words"
 unfoldable pub wordsOf : ℕ → List ℕ

@@ -6,7 +6,7 @@ ghost use mathlib.Core.Path.{_≡_};
 ghost use Prim.Native.Nat.{_+_, _-_, _≤_, _<_};
 ghost use lib.ListN.{length};
 ghost use Rattle.buffers.specs.Splice.{Wrote};
-ghost use Rattle.wave.specs.Text.{keptOf, nextAt, SameBefore, waveOf, bufferOf, refusalLine};
+ghost use Rattle.wave.specs.Text.{keptOf, nextAt, SameBefore, ReadInParts, ByOwnLength, waveOf, bufferOf, refusalLine};
 
 // How far a file is read: its length so far as `kept` counts it, whether there may be more, and whether it cannot be read.
 struct Stand {
@@ -238,6 +238,11 @@ fn stamps_buffer() -> [u8; 32776]
 {
     [0; 32776]
 }
+
+// Does nothing. Its contract is what makes of the count of `read_all` the refusal of a file that is longer than its buffer.
+fn long_files()
+    ensures { λ _. ⌜ ReadInParts × ByOwnLength ⌝ }
+{}
 
 // Reads the two files, and then shows their recording.
 fn export_files(size: usize) {
