@@ -1,7 +1,7 @@
 -- The frames of a row of shots: what is written for them, and what a viewer shows of them. Assumes nothing.
 use mathlib.Core.Path.{_≡_, refl, sym, ap, _∙_}
 use mathlib.Core.List.{List, [], _∷_, _++_, map}
-use Prim.Native.Nat.{ℕ, zero, suc, _+_, _-_, _≤_, _<_}
+use Prim.Native.Nat.{ℕ, zero, suc, _+_, _≤_, _<_}
 use native.Mathlib.Nat.{add-zero}
 use native.Mathlib.Omega.{arith}
 use lib.Dec.{leb}
@@ -12,8 +12,8 @@ use Rattle.bits.proofs.Logic.{byCases}
 use Rattle.frames.specs.Frames.{identifier, timeLine, valueLine, changedLines, laterFrame}
 use Rattle.recording.specs.Wave.{Shot, laterFrames}
 use Rattle.recording.proofs.Shots.{unseen}
-use Rattle.viewer.specs.Reader.{Change, Frame, writtenChanges, written, changedBy, shownFrom, shownAt}
-use Rattle.viewer.specs.Recordings.{Each, Changed, Filled, times}
+use Rattle.viewer.specs.Reader.{Change, Frame, writtenChanges, written, changedBy, shownFrom, shownBefore}
+use Rattle.viewer.specs.Recordings.{Each, Changed, Ordered, Filled, times}
 use Rattle.viewer.proofs.Lines.{Writable}
 
 -- ---- the changes of a time, and the frames of a row of shots
@@ -123,7 +123,7 @@ frames-begin (s ∷ ss) time l e = begins (s .values) (l .0 .nine) (l .0 .binary
 
 -- ---- what is shown
 -- a later frame shows nothing yet
-shown-held : (n value : ℕ) (fs : List Frame) (time character : ℕ) → time < n → Rising n (times fs) → shownFrom value fs time character ≡ value
+pub shown-held : (n value : ℕ) (fs : List Frame) (time character : ℕ) → time < n → Rising n (times fs) → shownFrom value fs time character ≡ value
 unfolding if_then_else_
 shown-held n value [] time character h r = refl
 shown-held n value (f ∷ fs) time character h r =
@@ -199,17 +199,53 @@ changes-differ view from (s ∷ ss) (v ∷ vs) h =
     (λ e. rw e more)
     (λ e. rw e ((λ z. eqb-false v s e (sym z ∙ sym (ap view (add-zero from)) ∙ h 0 (omega arith))), more))
 
--- `frames` shows, from n on and just before, what `shown` and the shots say
-pub frames-changed : (frames : List Frame) (n : ℕ) (shown : List ℕ) (shots : List Shot) → length shown ≡ 9 → Each Levels shots → Rising n (shotTimes shots)
-    → ((time line : ℕ) → n ≤ suc time → line < 9 → shownAt frames time (identifier + line) ≡ getD (lastBy time shown shots) line 0)
-    → Each (Changed frames) (framesOf shown shots)
+-- the values before a time
+abbrev pub beforeBy : ℕ → List ℕ → List Shot → List ℕ
+beforeBy zero before shots = before
+beforeBy (suc time) before shots = lastBy time before shots
+
+before-first : (time : ℕ) (before : List ℕ) (s : Shot) (ss : List Shot) → time ≤ s .time → beforeBy time before (s ∷ ss) ≡ before
 unfolding if_then_else_
+before-first zero before s ss h = refl
+before-first (suc time) before s ss h = rw (lt-leb (s .time) time h)
+
+before-next : (time : ℕ) (before : List ℕ) (s : Shot) (ss : List Shot) → s .time < time → beforeBy time before (s ∷ ss) ≡ beforeBy time (s .values) ss
+unfolding if_then_else_
+before-next zero before s ss h = absurd (omega arith)
+before-next (suc time) before s ss h = rw (le-leb (s .time) time (omega arith))
+
+-- `frames` shows, before n and before each later time, what `shown` and the shots say
+pub frames-changed : (frames : List Frame) (n : ℕ) (shown : List ℕ) (shots : List Shot) → length shown ≡ 9 → Each Levels shots → Rising n (shotTimes shots)
+    → ((time wire : ℕ) → n ≤ time → wire < 9 → shownBefore frames time (identifier + wire) ≡ getD (beforeBy time shown shots) wire 0)
+    → Each (Changed frames) (framesOf shown shots)
 frames-changed frames n shown [] h l r view = tt
 frames-changed frames n shown (s ∷ ss) h l r view =
     framed-each (Changed frames) (s .time) (changesOf identifier shown (s .values)) (framesOf (s .values) ss)
-    (λ some late.
-    changes-differ (shownAt frames (s .time - 1)) identifier shown (s .values)
-    (λ line small.
-    view (s .time - 1) line (omega (arith, r .0)) (omega (arith, h)) ∙ rw (lt-leb (s .time) (s .time - 1) (omega arith))))
+    (λ some.
+    changes-differ (shownBefore frames (s .time)) identifier shown (s .values)
+    (λ wire small.
+    view (s .time) wire (r .0) (omega (arith, h)) ∙ ap (λ (values : List ℕ). getD values wire 0) (before-first (s .time) shown s ss (omega arith))))
     (frames-changed frames (suc (s .time)) (s .values) ss (l .0 .nine) (l .1) (r .1)
-    (λ time line after small. view time line (omega (arith, r .0)) small ∙ rw (le-leb (s .time) time (omega arith))))
+    (λ time wire after small. view time wire (omega (arith, r .0)) small ∙ ap (λ (values : List ℕ). getD values wire 0) (before-next time shown s ss after)))
+
+-- ---- in the order of their characters
+ordered-lower : (n m : ℕ) (cs : List Change) → n ≤ m → Ordered m cs → Ordered n cs
+ordered-lower n m [] h o = tt
+ordered-lower n m (c ∷ cs) h o = (omega (arith, o .0), o .1)
+
+changes-ordered : (from : ℕ) (shown values : List ℕ) → from + length values ≤ 42 → Ordered from (changesOf from shown values)
+unfolding if_then_else_
+changes-ordered from [] values h = tt
+changes-ordered from (s ∷ ss) [] h = tt
+changes-ordered from (s ∷ ss) (v ∷ vs) h =
+    let more = changes-ordered (suc from) ss vs (omega arith) in
+    byCases (v is s)
+    (λ e. rw e (ordered-lower from (suc from) (changesOf (suc from) ss vs) (omega arith) more))
+    (λ e. rw e (omega arith, (omega arith, more)))
+
+pub frames-ordered : (shown : List ℕ) (shots : List Shot) → Each Levels shots → Each (λ (f : Frame). Ordered identifier (f .changes)) (framesOf shown shots)
+frames-ordered shown [] l = tt
+frames-ordered shown (s ∷ ss) l =
+    framed-each _ (s .time) (changesOf identifier shown (s .values)) _
+    (λ some. changes-ordered identifier shown (s .values) (omega (arith, l .0 .nine)))
+    (frames-ordered (s .values) ss (l .1))

@@ -2,3 +2,5 @@ pub mod Lines
 pub mod Frames
 pub mod Shots
 pub mod Viewed
+pub mod Only
+pub mod Examples

@@ -1,8 +1,8 @@
 -- What a viewer reads in the text of an accepted export. Assumes nothing.
-use mathlib.Core.Path.{_≡_, refl, ap, _∙_}
+use mathlib.Core.Path.{_≡_, refl, sym, ap, _∙_}
 use mathlib.Core.Bool.{Bool, true, false, not}
 use mathlib.Core.List.{List, [], _∷_, _++_}
-use Prim.Native.Nat.{ℕ, _+_, _*_, _/_, _%_, _<_}
+use Prim.Native.Nat.{ℕ, zero, suc, _+_, _*_, _/_, _%_, _≤_, _<_}
 use native.Mathlib.Omega.{arith}
 use lib.Dec.{ltb}
 use lib.ListN.{length, length-map, getD, getD-replicate, take}
@@ -22,10 +22,10 @@ use Rattle.frames.specs.Frames.{identifier, header}
 use Rattle.frames.proofs.Gaps.{stamps-length}
 use Rattle.recording.specs.Wave.{Shot, shotsOf, merged, waveText, refusalOf, waveRefusal, exportedOf, pageOf}
 use Rattle.recording.proofs.Shots.{unseen, first-is}
-use Rattle.viewer.specs.Reader.{Frame, framesIn, written, shownAt}
-use Rattle.viewer.specs.Recordings.{Each, timesIn, times, Reads, ExportReads}
+use Rattle.viewer.specs.Reader.{Frame, framesIn, written, shownAt, shownBefore}
+use Rattle.viewer.specs.Recordings.{Each, timesIn, times, Tells, Reads, ExportReads}
 use Rattle.viewer.proofs.Lines.{text-read}
-use Rattle.viewer.proofs.Frames.{Levels, Rising, framesOf, shotTimes, lastBy, frames-written, frames-writable, frames-filled, frames-rise, rising-grows, frames-begin, frames-show, frames-changed}
+use Rattle.viewer.proofs.Frames.{Levels, Rising, framesOf, shotTimes, lastBy, beforeBy, frames-written, frames-writable, frames-filled, frames-rise, rising-grows, frames-begin, frames-show, frames-changed, frames-ordered}
 use Rattle.viewer.proofs.Shots.{shots-levels, merged-each, shots-none, shots-begin, shots-rise, shots-last}
 
 module _ (b : Board) (events stamps : List ℕ) where
@@ -54,19 +54,26 @@ module _ (b : Board) (events stamps : List ℕ) where
         let unknown : getD unseen wire 0 ≡ 2 = getD-replicate 9 wire 2 0 small in
         rw unknown at (frames-show 0 unseen shots time wire refl levels rise small)
 
-    reads : Reads b events stamps (waveText b events stamps)
-    reads =
+    view-before : (time wire : ℕ) → 0 ≤ time → wire < 9 → shownBefore frames time (identifier + wire) ≡ getD (beforeBy time unseen shots) wire 0
+    view-before zero wire start small = sym (getD-replicate 9 wire 2 0 small)
+    view-before (suc time) wire start small = view time wire small
+
+    tells : Tells b events stamps frames
+    tells =
         record {
-          whole = rw frames-are text-is;
-          none = λ empty. rw (frames-are, shots-none b (records events) (timesIn stamps) empty);
-          first = λ some. rw frames-are (frames-begin shots 0 levels (shots-begin b (records events) 0 (stampsOf stamps) same some));
-          grows = rw frames-are (λ i more. rising-grows 0 (times frames) (frames-rise 0 unseen shots rise) i (rw length-map more));
-          filled = rw frames-are (frames-filled unseen shots);
-          changed = rw frames-are (frames-changed frames 0 unseen shots refl levels rise (λ time wire start small. view time wire small));
-          shown = rw frames-are (λ some time.
+          none = λ empty. rw (shots-none b (records events) (timesIn stamps) empty);
+          first = λ some. frames-begin shots 0 levels (shots-begin b (records events) 0 (stampsOf stamps) same some);
+          grows = λ i more. rising-grows 0 (times frames) (frames-rise 0 unseen shots rise) i (rw length-map more);
+          filled = frames-filled unseen shots;
+          ordered = frames-ordered unseen shots levels;
+          changed = frames-changed frames 0 unseen shots refl levels rise view-before;
+          shown = λ some time.
               let last = shots-last b (records events) 0 (stampsOf stamps) time unseen same some (omega arith) in
-              record { k = last .k; last = last .last; values = λ wire small. view time wire small ∙ ap (λ (values : List ℕ). getD values wire 0) (last .same) });
+              record { k = last .k; last = last .last; values = λ wire small. view time wire small ∙ ap (λ (values : List ℕ). getD values wire 0) (last .same) };
         }
+
+    reads : Reads b events stamps (waveText b events stamps)
+    reads = record { whole = rw frames-are text-is; tells = rw frames-are tells }
 
 -- ---- an accepted export
 -- none of the lines of refusals is true, nor that of the stamps

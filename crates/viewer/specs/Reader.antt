@@ -1,7 +1,7 @@
 -- How a wave viewer reads a Value Change Dump (IEEE 1364): lines, the frames that they make, and the value that a line has at a time.
 -- Nothing here knows how the text is made. Assumes nothing.
 use mathlib.Core.List.{List, [], _∷_, _++_}
-use Prim.Native.Nat.{ℕ, _+_, _-_, _*_}
+use Prim.Native.Nat.{ℕ, zero, suc, _+_, _-_, _*_}
 use lib.Dec.{leb}
 use lib.ListN.{getD}
 use Rattle.bits.specs.Bits.{if_then_else_, _is_}
@@ -91,3 +91,8 @@ shownFrom value (f ∷ fs) time character = shownFrom (if leb (f .time) time the
 -- the value shown at `time` for the line with this identifier character
 abbrev pub shownAt : List Frame → ℕ → ℕ → ℕ
 shownAt frames time character = shownFrom unknown frames time character
+
+-- and just before; before time 0 nothing has been shown
+abbrev pub shownBefore : List Frame → ℕ → ℕ → ℕ
+shownBefore frames zero character = unknown
+shownBefore frames (suc time) character = shownAt frames time character

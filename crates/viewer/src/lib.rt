@@ -2,7 +2,7 @@
 // functions here do nothing; their contracts are the statements, so that the check fails where one has no proof.
 ghost use Rattle.viewer.specs.Writers.{OneWriting};
 ghost use Rattle.viewer.specs.Rooms.{Bounded, NeverForty};
-ghost use Rattle.viewer.specs.Recordings.{ExportReads};
+ghost use Rattle.viewer.specs.Recordings.{ExportReads, OneText};
 
 pub fn one_writing()
     ensures { λ _. ⌜ OneWriting ⌝ }
@@ -13,5 +13,5 @@ pub fn room_enough()
 {}
 
 pub fn export_reads()
-    ensures { λ _. ⌜ ExportReads ⌝ }
+    ensures { λ _. ⌜ ExportReads × OneText ⌝ }
 {}
