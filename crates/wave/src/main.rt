@@ -239,7 +239,7 @@ fn stamps_buffer() -> [u8; 32776]
     [0; 32776]
 }
 
-// Does nothing. Its contract is what makes of the count of `read_all` the refusal of a file that is longer than its buffer.
+// Does nothing. Its contract: a file that is longer than its buffer is refused by its own length, in however many parts it is read.
 fn long_files()
     ensures { λ _. ⌜ ReadInParts × ByOwnLength ⌝ }
 {}
