@@ -1,14 +1,19 @@
 //! The reader of `tests/cases.txt`; the head of that file explains its format.
 
 use crate::board::Board;
-use crate::step::{driven, fresh, step};
+use crate::step::{driven, fresh, step, DONE, SIZE};
+
+const FIELDS: &str =
+    "mode ready out input lines strobe vector select mask and high asked live waiting \
+                      service awaiting matched code levels driven";
 
 pub struct Case {
     pub name: String,
     pub size: usize,
-    pub events: Vec<[u8; 4]>,
-    /// The answer to the last event, where the case says something about it.
-    pub answer: Option<[u8; 4]>,
+    /// What the fresh call must give; the board is of the size asked for where this is 0, else of size 0.
+    pub code: u8,
+    /// The bytes of each event and, where the case says something about it, its answer.
+    pub events: Vec<(Vec<u8>, Option<[u8; 4]>)>,
     /// Place, field and number after the last event.
     pub fields: Vec<(usize, String, u8)>,
 }
@@ -27,22 +32,32 @@ fn case(line: &str) -> Case {
     let mut case = Case {
         name: name.to_string(),
         size: size.parse().expect(line),
-        events: events.split_whitespace().map(record).collect(),
-        answer: None,
+        code: DONE,
+        events: events.split_whitespace().map(event).collect(),
         fields: Vec::new(),
     };
     for word in wanted.split_whitespace() {
-        match word.split_once('=') {
-            None => case.answer = Some(record(word)),
-            Some((field, number)) => {
-                let (place, field) = field.split_once('.').expect(line);
-                let place = place.parse().expect(line);
-                case.fields
-                    .push((place, field.to_string(), number.parse().expect(line)));
-            }
-        }
+        case.want(word);
     }
     case
+}
+
+fn event(word: &str) -> (Vec<u8>, Option<[u8; 4]>) {
+    let (event, answer) = match word.split_once('>') {
+        Some((event, answer)) => (event, Some(record(answer))),
+        None => (word, None),
+    };
+    let raw = event
+        .strip_prefix('[')
+        .and_then(|rest| rest.strip_suffix(']'));
+    let bytes = match raw {
+        Some(raw) => raw
+            .split_terminator(',')
+            .map(|number| number.parse().expect(word))
+            .collect(),
+        None => record(event).to_vec(),
+    };
+    (bytes, answer)
 }
 
 pub fn record(word: &str) -> [u8; 4] {
@@ -54,28 +69,70 @@ pub fn record(word: &str) -> [u8; 4] {
 }
 
 impl Case {
+    fn want(&mut self, word: &str) {
+        if let Some((place, named)) = word.split_once('{') {
+            self.want_whole(place, named.strip_suffix('}').expect(word));
+        } else if let Some(code) = word.strip_prefix("fresh=") {
+            self.code = code.parse().expect(word);
+        } else if let Some((place, field)) = word.split_once('.') {
+            let (field, number) = field.split_once('=').expect(word);
+            self.want_field(place, field, number);
+        } else {
+            let last = self.events.last_mut().expect(word);
+            assert!(last.1.replace(record(word)).is_none(), "{word}");
+        }
+    }
+
+    fn want_field(&mut self, place: &str, field: &str, number: &str) {
+        let place = place.parse().expect(place);
+        let number = number.parse().expect(number);
+        self.fields.push((place, field.to_string(), number));
+    }
+
+    /// Every field of a place: those not named are as on a fresh board.
+    fn want_whole(&mut self, place: &str, named: &str) {
+        let named: Vec<(&str, &str)> = named
+            .split_terminator(',')
+            .map(|pair| pair.split_once('=').expect(pair))
+            .collect();
+        for field in FIELDS.split_whitespace() {
+            let otherwise = match field {
+                "mode" | "strobe" => "1",
+                "mask" => "255",
+                _ => "0",
+            };
+            let number = named.iter().find(|(name, _)| *name == field);
+            self.want_field(place, field, number.map_or(otherwise, |(_, number)| number));
+        }
+        for (name, _) in named {
+            assert!(FIELDS.split_whitespace().any(|field| field == name));
+        }
+    }
+
     /// Runs the case and gives every wanted thing that did not come out.
     pub fn failures(&self) -> Vec<String> {
-        let (_, mut board) = fresh(self.size);
-        let mut last = [0; 4];
-        for event in &self.events {
-            last = step(&mut board, event);
-        }
+        let name = &self.name;
         let mut failures = Vec::new();
-        if let Some(wanted) = self.answer {
-            if last != wanted {
+        let (code, mut board) = fresh(self.size);
+        let size = if self.code == DONE { self.size } else { 0 };
+        assert!(self.code == DONE || self.code == SIZE, "{name}");
+        if (code, board.size as usize) != (self.code, size) {
+            failures.push(format!("{name}: fresh gives {code}, size {}", board.size));
+        }
+        for (number, (event, wanted)) in self.events.iter().enumerate() {
+            let given = step(&mut board, event);
+            if wanted.is_some_and(|wanted| wanted != given) {
                 failures.push(format!(
-                    "{}: wanted answer {wanted:?}, got {last:?}",
-                    self.name
+                    "{name}: event {}: wanted {wanted:?}, got {given:?}",
+                    number + 1
                 ));
             }
         }
-        for (place, name, wanted) in &self.fields {
-            let got = field(&board, *place, name);
+        for (place, field, wanted) in &self.fields {
+            let got = seen(&board, *place, field);
             if got != *wanted {
                 failures.push(format!(
-                    "{}: wanted {place}.{name}={wanted}, got {got}",
-                    self.name
+                    "{name}: wanted {place}.{field}={wanted}, got {got}"
                 ));
             }
         }
@@ -83,13 +140,13 @@ impl Case {
     }
 }
 
-fn field(board: &Board, place: usize, name: &str) -> u8 {
+fn seen(board: &Board, place: usize, field: &str) -> u8 {
     let port = &board.ports[place];
-    match name {
+    match field {
         "mode" => port.mode,
         "ready" => port.ready as u8,
         "out" => port.out,
-        "in" => port.input,
+        "input" => port.input,
         "lines" => port.lines,
         "strobe" => port.strobe as u8,
         "vector" => port.vector,
@@ -103,8 +160,9 @@ fn field(board: &Board, place: usize, name: &str) -> u8 {
         "service" => port.service as u8,
         "awaiting" => port.awaiting,
         "matched" => port.matched as u8,
-        "dlevel" => driven(board, place).1,
-        "dmask" => driven(board, place).2,
-        _ => panic!("no field is called {name}"),
+        "code" => driven(board, place).0,
+        "levels" => driven(board, place).1,
+        "driven" => driven(board, place).2,
+        _ => panic!("no field is called {field}"),
     }
 }

@@ -3,16 +3,16 @@
 //!     rival sessions [COUNT [SEED]]   random sessions on both, event by event
 //!     rival recordings [COUNT [SEED]] random recordings exported by both
 //!     rival bench                     how long an event and a record of an export take
-//!     rival unsound SIZE < records    the library's answers on the board that a fresh call with any size
-//!                                     hands back
+//!     rival library SIZE < events     what the library gives on the board that a fresh call with any size
+//!                                     hands back; an event is a line of bytes in decimal, with commas
 
-use std::io::{self, Read};
+use std::io::{self, BufRead};
 use std::process::ExitCode;
 
-use rival::{bench, fresh, library, recordings, sessions};
+use rival::{bench, fresh, library, recordings, sessions, PLACES};
 
 const USAGE: &str = "usage: rival sessions [COUNT [SEED]] | rival recordings [COUNT [SEED]] | \
-                     rival bench | rival unsound SIZE < records";
+                     rival bench | rival library SIZE < events";
 
 const USUAL_SEED: u64 = 1;
 
@@ -31,7 +31,7 @@ fn main() -> ExitCode {
         (Some("recordings"), [Some(count)]) => compare_recordings(*count, USUAL_SEED),
         (Some("recordings"), [Some(count), Some(seed)]) => compare_recordings(*count, *seed),
         (Some("bench"), []) => bench::bench(),
-        (Some("unsound"), [Some(size)]) => unsound(*size as usize),
+        (Some("library"), [Some(size)]) => show_library(*size as usize),
         _ => {
             eprintln!("{USAGE}");
             return ExitCode::from(2);
@@ -65,20 +65,56 @@ fn compare_recordings(count: u64, seed: u64) -> Result<(), String> {
     Ok(())
 }
 
-/// First the code of the fresh call, then a line for each record as the listing has it.
-fn unsound(size: usize) -> Result<(), String> {
-    let mut records = Vec::new();
-    io::stdin()
-        .lock()
-        .read_to_end(&mut records)
-        .map_err(|error| error.to_string())?;
+/// First the code of the fresh call and the size of the board; then for each event a line as the listing has
+/// it, and one for each of the eight places as the panel has it, with the code of the question for driven
+/// lines at its end.
+fn show_library(size: usize) -> Result<(), String> {
     let mut board = library::encode(&fresh(1).1);
-    println!("fresh {}", library::fresh(&mut board, size));
-    for (number, event) in records.chunks_exact(4).enumerate() {
+    let code = library::fresh(&mut board, size);
+    println!("fresh {code} {}", board.size);
+    for (number, line) in io::stdin().lock().lines().enumerate() {
+        let line = line.map_err(|error| error.to_string())?;
+        let event: Result<Vec<u8>, _> = line.split_terminator(',').map(str::parse).collect();
+        let event = event.map_err(|error| format!("{line}: {error}"))?;
         let mut answer = [0; 4];
-        library::step(&mut board, event, &mut answer);
+        library::step(&mut board, &event, &mut answer);
         let [code, place, value, request] = answer;
         println!("{} {code} {place} {value} {request}", number + 1);
+        for place in 0..PLACES {
+            show_place(&mut board, place);
+        }
     }
     Ok(())
+}
+
+fn show_place(board: &mut library::Board, place: usize) {
+    let chip = &board.chips[place / 2];
+    let port = if place % 2 == 0 { chip.a } else { chip.b };
+    let mut lines = [0; 2];
+    let code = library::lines(board, place, &mut lines);
+    let columns = [
+        place as u8,
+        port.mode,
+        port.ready,
+        port.out,
+        port.input,
+        port.lines,
+        port.strobe,
+        port.vector,
+        port.select,
+        port.mask,
+        port.all,
+        port.high,
+        port.asked,
+        port.live,
+        port.waiting,
+        port.service,
+        port.awaiting,
+        port.matched,
+        lines[0],
+        lines[1],
+        code,
+    ];
+    let words: Vec<String> = columns.iter().map(u8::to_string).collect();
+    println!("{}", words.join(" "));
 }
