@@ -6,7 +6,7 @@ use Prim.Native.String.{String}
 use mathlib.Core.Path.{_≡_}
 use mathlib.Core.Bool.{Bool, true, false, _&&_}
 use mathlib.Core.List.{List, [], _∷_}
-use lib.ListN.{getD, set}
+use lib.ListN.{getD, set, replicate}
 use Rattle.bits.specs.Bits.{if_then_else_, _is_}
 use Rattle.port.specs.Rules.{served, freshPort}
 use Rattle.port.specs.declared.Port.{Port}
@@ -87,10 +87,6 @@ seen p l =
     ∷ l .driven
     ∷ []
 
--- at a fresh board's place
-abbrev pub blank : List ℕ
-blank = seen freshPort (record { code = 0; levels = 0; driven = 0 })
-
 -- of all eight places, on the board or beyond its size; one that no chip has would show as under service
 abbrev pub seenAt : Board → ℕ → List ℕ
 seenAt b place = seen (getD (flat (b .chips)) place (served freshPort)) (linesOf b place)
@@ -156,6 +152,9 @@ levels = 18
 abbrev pub driven : ℕ
 driven = 19
 
+abbrev pub fields : ℕ
+fields = 20
+
 -- ---- what a row wants at the end: some fields of a place, or all of them, where those not named are as at a fresh board's place
 infix 68 _≔_
 pub data Setting : Type 0 where
@@ -181,6 +180,10 @@ same (x ∷ xs) (y ∷ ys) = (x is y) && same xs ys
 abbrev pub changed : List Setting → List ℕ → List ℕ
 changed [] l = l
 changed ((field ≔ n) ∷ ss) l = set (changed ss l) field n
+
+-- "Fresh": mode 1, strobe high, mask 255, and nothing else
+abbrev pub blank : List ℕ
+blank = changed (mode ≔ 1 ∷ strobe ≔ 1 ∷ mask ≔ 255 ∷ []) (replicate fields 0)
 
 abbrev pub agrees : List ℕ → List Setting → Bool
 agrees l [] = true

@@ -1133,11 +1133,24 @@ D8 =
     bytes (1 ∷ 0 ∷ 0 ∷ []) gives answer 32 0 0 0 ∷ reset gives answer 0 0 0 0 ∷ [])
     (every 3 [] ∷ [])
 
--- S1: ED 45 is RETN and ends no service
-abbrev pub S1 : Row
-S1 =
-    session "S1" 1
+-- D9: the nearest asking place is named also when a farther one has just begun to ask
+abbrev pub D9 : Row
+D9 =
+    session "D9" 2
+    (control 1 131 ∷ control 2 131 ∷ fetch 0x00 ∷ strobe-to 1 0 ∷ strobe-to 1 1 ∷ strobe-to 2 0 ∷ strobe-to 2 1 gives answer 0 2 1 2 ∷ [])
+    ([])
+
+-- S1: ED 45 is RETN and ends no service, nor does ED 5D
+abbrev pub S1·1 : Row
+S1·1 =
+    session "S1.1" 1
     (control 0 131 ∷ fetch 0x00 ∷ strobe-to 0 0 ∷ strobe-to 0 1 ∷ acknowledge ∷ fetch 0xED ∷ fetch 0x45 ∷ [])
+    (some 0 (service ≔ 1 ∷ []) ∷ [])
+
+abbrev pub S1·2 : Row
+S1·2 =
+    session "S1.2" 1
+    (control 0 131 ∷ fetch 0x00 ∷ strobe-to 0 0 ∷ strobe-to 0 1 ∷ acknowledge ∷ fetch 0xED ∷ fetch 0x5D ∷ [])
     (some 0 (service ≔ 1 ∷ []) ∷ [])
 
 -- S2: a reset keeps the input register
@@ -1148,10 +1161,16 @@ S2 =
     (some 0 (input ≔ 85 ∷ []) ∷ [])
 
 -- S3: a reset clears an awaited word
-abbrev pub S3 : Row
-S3 =
-    session "S3" 1
+abbrev pub S3·1 : Row
+S3·1 =
+    session "S3.1" 1
     (control 0 207 ∷ reset ∷ control 0 15 ∷ [])
+    (some 0 (mode ≔ 0 ∷ []) ∷ [])
+
+abbrev pub S3·2 : Row
+S3·2 =
+    session "S3.2" 1
+    (control 0 23 ∷ reset ∷ control 0 15 ∷ [])
     (some 0 (mode ≔ 0 ∷ []) ∷ [])
 
 -- S4: an interrupt control word that disables drops no waiting interrupt
@@ -1200,6 +1219,174 @@ S7·4 =
     (control 0 141 gives answer 19 0 141 0 ∷ [])
     ([])
 
+-- S8: a repeated write or read leaves Ready high
+abbrev pub S8·1 : Row
+S8·1 =
+    session "S8.1" 1
+    (control 0 15 ∷ write 0 1 ∷ write 0 2 ∷ [])
+    (some 0 (ready ≔ 1 ∷ []) ∷ [])
+
+abbrev pub S8·2 : Row
+S8·2 =
+    session "S8.2" 1
+    (read 0 ∷ read 0 ∷ [])
+    (some 0 (ready ≔ 1 ∷ []) ∷ [])
+
+-- S9: a refused strobe value leaves the strobe's level
+abbrev pub S9 : Row
+S9 =
+    session "S9" 1
+    (strobe-to 0 0 ∷ strobe-to 0 2 gives answer 18 0 2 0 ∷ [])
+    (some 0 (strobe ≔ 0 ∷ waiting ≔ 0 ∷ []) ∷ [])
+
+-- S10: a word of no defined form is refused for its fourth byte first, and for its place before that
+abbrev pub S10·1 : Row
+S10·1 =
+    session "S10.1" 1
+    (bytes (3 ∷ 0 ∷ 9 ∷ 1 ∷ []) gives answer 18 0 9 0 ∷ [])
+    ([])
+
+abbrev pub S10·2 : Row
+S10·2 =
+    session "S10.2" 1
+    (control 2 9 gives answer 17 2 9 0 ∷ [])
+    ([])
+
+-- S11: other than four bytes: 32 also on a board that is not sound, place and value 0, and an open ED stays open
+abbrev pub S11·1 : Row
+S11·1 =
+    refused "S11.1" 0
+    (bytes (0 ∷ 0 ∷ 0 ∷ []) gives answer 32 0 0 0 ∷ [])
+    ([])
+
+abbrev pub S11·2 : Row
+S11·2 =
+    session "S11.2" 2
+    (bytes (4 ∷ 3 ∷ 9 ∷ []) gives answer 32 0 0 0 ∷ [])
+    ([])
+
+abbrev pub S11·3 : Row
+S11·3 =
+    session "S11.3" 1
+    (control 0 131 ∷ fetch 0x00 ∷ strobe-to 0 0 ∷ strobe-to 0 1 ∷ acknowledge ∷ fetch 0xED ∷ bytes (1 ∷ 0 ∷ 0 ∷ []) ∷ fetch 0x4D ∷ [])
+    (some 0 (service ≔ 0 ∷ []) ∷ [])
+
+-- S12: bits 5 and 4 of a mode word are ignored
+abbrev pub S12 : Row
+S12 =
+    session "S12" 1
+    (control 0 63 gives answer 0 0 63 0 ∷ [])
+    (some 0 (mode ≔ 0 ∷ []) ∷ [])
+
+-- S13: a mode 3 word keeps the select register until the new one comes
+abbrev pub S13 : Row
+S13 =
+    session "S13" 1
+    (control 0 207 ∷ control 0 240 ∷ control 0 207 ∷ [])
+    (some 0 (select ≔ 240 ∷ driven ≔ 15 ∷ []) ∷ [])
+
+-- S14: the mask stays until the new one comes
+abbrev pub S14 : Row
+S14 =
+    session "S14" 1
+    (control 0 23 ∷ control 0 0 ∷ control 0 23 ∷ [])
+    (some 0 (mask ≔ 0 ∷ awaiting ≔ 2 ∷ []) ∷ [])
+
+-- S15: A entering mode 2 lowers B's Ready
+abbrev pub S15 : Row
+S15 =
+    session "S15" 1
+    (read 1 ∷ control 0 143 ∷ [])
+    (some 1 (ready ≔ 0 ∷ []) ∷ [])
+
+-- S16: a mode 0 read leaves Ready
+abbrev pub S16 : Row
+S16 =
+    session "S16" 1
+    (control 0 15 ∷ read 0 gives answer 1 0 0 0 ∷ [])
+    (some 0 (ready ≔ 0 ∷ []) ∷ [])
+
+-- S17: mode 2 of one A leaves the B of another chip alone
+abbrev pub S17 : Row
+S17 =
+    session "S17" 2
+    (control 0 143 ∷ read 3 ∷ [])
+    (some 3 (ready ≔ 1 ∷ []) ∷ [])
+
+-- S18: no match but in mode 3
+abbrev pub S18 : Row
+S18 =
+    session "S18" 1
+    (control 0 207 ∷ control 0 255 ∷ control 0 55 ∷ control 0 0 ∷ control 0 15 ∷ lines-to 0 1 ∷ [])
+    (some 0 (matched ≔ 0 ∷ waiting ≔ 0 ∷ []) ∷ [])
+
+-- S19: a match makes a disabled port wait
+abbrev pub S19 : Row
+S19 =
+    session "S19" 1
+    (control 0 207 ∷ control 0 255 ∷ control 0 55 ∷ control 0 0 ∷ lines-to 0 1 ∷ [])
+    (some 0 (asked ≔ 0 ∷ waiting ≔ 1 ∷ []) ∷ [])
+
+-- S20: a RETI releases a port that was disabled under service
+abbrev pub S20 : Row
+S20 =
+    session "S20" 1
+    (control 0 131 ∷ fetch 0x00 ∷ strobe-to 0 0 ∷ strobe-to 0 1 ∷ acknowledge ∷ control 0 3 ∷ fetch 0xED ∷ fetch 0x4D ∷ [])
+    (some 0 (service ≔ 0 ∷ []) ∷ [])
+
+-- S21: DD, FD and CB open nothing
+abbrev pub S21·1 : Row
+S21·1 =
+    session "S21.1" 1
+    (control 0 131 ∷ fetch 0x00 ∷ strobe-to 0 0 ∷ strobe-to 0 1 ∷ acknowledge ∷ fetch 0xDD ∷ fetch 0x4D ∷ [])
+    (some 0 (service ≔ 1 ∷ []) ∷ [])
+
+abbrev pub S21·2 : Row
+S21·2 =
+    session "S21.2" 1
+    (control 0 131 ∷ fetch 0x00 ∷ strobe-to 0 0 ∷ strobe-to 0 1 ∷ acknowledge ∷ fetch 0xFD ∷ fetch 0x4D ∷ [])
+    (some 0 (service ≔ 1 ∷ []) ∷ [])
+
+abbrev pub S21·3 : Row
+S21·3 =
+    session "S21.3" 1
+    (control 0 131 ∷ fetch 0x00 ∷ strobe-to 0 0 ∷ strobe-to 0 1 ∷ acknowledge ∷ fetch 0xCB ∷ fetch 0x4D ∷ [])
+    (some 0 (service ≔ 1 ∷ []) ∷ [])
+
+-- S22: a vector word sets the vector and nothing else
+abbrev pub S22 : Row
+S22 =
+    session "S22" 1
+    (control 0 15 ∷ control 0 131 ∷ fetch 0x00 ∷ strobe-to 0 0 ∷ strobe-to 0 1 ∷ write 0 1 ∷ control 0 32 gives answer 0 0 32 1 ∷ [])
+    (every 0 (mode ≔ 0 ∷ ready ≔ 1 ∷ out ≔ 1 ∷ vector ≔ 32 ∷ asked ≔ 1 ∷ live ≔ 1 ∷ waiting ≔ 1 ∷ levels ≔ 1 ∷ driven ≔ 255 ∷ []) ∷ [])
+
+-- S23: a write does not end the waiting
+abbrev pub S23 : Row
+S23 =
+    session "S23" 1
+    (strobe-to 0 0 ∷ strobe-to 0 1 ∷ write 0 1 ∷ [])
+    (some 0 (waiting ≔ 1 ∷ []) ∷ [])
+
+-- S24: nor does a select word, or a mask what came while it was awaited
+abbrev pub S24·1 : Row
+S24·1 =
+    session "S24.1" 1
+    (strobe-to 0 0 ∷ strobe-to 0 1 ∷ control 0 207 ∷ control 0 255 ∷ [])
+    (some 0 (waiting ≔ 1 ∷ []) ∷ [])
+
+abbrev pub S24·2 : Row
+S24·2 =
+    session "S24.2" 1
+    (control 0 23 ∷ strobe-to 0 0 ∷ strobe-to 0 1 ∷ control 0 255 ∷ [])
+    (some 0 (waiting ≔ 1 ∷ []) ∷ [])
+
+-- S25: the strobe has no part in the match
+abbrev pub S25 : Row
+S25 =
+    session "S25" 1
+    (control 0 207 ∷ control 0 255 ∷ control 0 55 ∷ control 0 0 ∷ strobe-to 0 0 ∷ lines-to 0 1 ∷ [])
+    (some 0 (waiting ≔ 1 ∷ []) ∷ [])
+
 abbrev pub rows : List Row
 rows =
     P1 ∷ P2 ∷ P3 ∷ P4 ∷ P5 ∷ P6 ∷ P7 ∷ P8 ∷ P9 ∷ P10 ∷ P11 ∷ P12 ∷ L1 ∷ E1 ∷ E2 ∷ E3 ∷ E4 ∷ W1 ∷ W2 ∷ W3 ∷ M1 ∷ M2 ∷ M3 ∷ M4 ∷ M5 ∷ M6 ∷
@@ -1209,5 +1396,6 @@ rows =
     B10·2 ∷ B11 ∷ B12·1 ∷ B12·2 ∷ B12·3 ∷ B13 ∷ B14·1 ∷ B14·2 ∷ B15·1 ∷ B15·2 ∷ B15·3 ∷ B15·4 ∷ B15·5 ∷ B16·1 ∷ B16·2 ∷ B17·1 ∷ B17·2 ∷
     B17·3 ∷ B18 ∷ B19 ∷ B20·1 ∷ B20·2 ∷ B21 ∷ B22·1 ∷ B22·2 ∷ B22·3 ∷ B22·4 ∷ B23·1 ∷ B23·2 ∷ B24·1 ∷ B24·2 ∷ B24·3 ∷ B25 ∷ B26 ∷ B27·1
     ∷ B27·2 ∷ B27·3 ∷ B27·4 ∷ B28·1 ∷ B28·2 ∷ B29·1 ∷ B29·2 ∷ C1·1 ∷ C1·2 ∷ C2 ∷ C3 ∷ C4·1 ∷ C4·2 ∷ C4·3 ∷ C5·1 ∷ C5·2 ∷ C5·3 ∷ C6·1 ∷
-    C6·2 ∷ C7·1 ∷ C7·2 ∷ C8·1 ∷ C8·2 ∷ C8·3 ∷ C8·4 ∷ C11·1 ∷ C11·2 ∷ D6·1 ∷ D6·2 ∷ D7 ∷ D8 ∷ S1 ∷ S2 ∷ S3 ∷ S4 ∷ S5 ∷ S6 ∷ S7·1 ∷ S7·2 ∷
-    S7·3 ∷ S7·4 ∷ []
+    C6·2 ∷ C7·1 ∷ C7·2 ∷ C8·1 ∷ C8·2 ∷ C8·3 ∷ C8·4 ∷ C11·1 ∷ C11·2 ∷ D6·1 ∷ D6·2 ∷ D7 ∷ D8 ∷ D9 ∷ S1·1 ∷ S1·2 ∷ S2 ∷ S3·1 ∷ S3·2 ∷ S4 ∷
+    S5 ∷ S6 ∷ S7·1 ∷ S7·2 ∷ S7·3 ∷ S7·4 ∷ S8·1 ∷ S8·2 ∷ S9 ∷ S10·1 ∷ S10·2 ∷ S11·1 ∷ S11·2 ∷ S11·3 ∷ S12 ∷ S13 ∷ S14 ∷ S15 ∷ S16 ∷ S17 ∷
+    S18 ∷ S19 ∷ S20 ∷ S21·1 ∷ S21·2 ∷ S21·3 ∷ S22 ∷ S23 ∷ S24·1 ∷ S24·2 ∷ S25 ∷ []
