@@ -1,7 +1,17 @@
 -- The whole promise, from its parts.
 -- Assumes nothing.
 use mathlib.Core.Path.{sym, _∙_}
+use Rattle.sessions.specs.Sessions.{rows}
+use Rattle.sessions.proofs.Rows.{together}
+use Rattle.sessions.proofs.Sessions.{each-row}
 use Rattle.demands.proofs.Asks.{who-is-asking}
+use Rattle.meaning.proofs.Sound.{sound-says}
+use Rattle.meaning.proofs.Match.{or-match, and-match}
+use Rattle.meaning.proofs.Mode2.{mode2}
+use Rattle.meaning.proofs.Beyond.{not-read, not-changed}
+use Rattle.meaning.proofs.Sessions.{after-any-session}
+use Rattle.viewer.proofs.Viewed.{export-reads}
+use Rattle.viewer.proofs.Only.{one-text}
 use Rattle.calls.specs.Promise.{OnlyOne, Promise}
 use Rattle.calls.proofs.Answers.{every-fresh, every-step, every-run-call, every-wave, every-lines}
 use Rattle.calls.proofs.Session.{any-calls}
@@ -25,6 +35,13 @@ promise = record {
   wave = every-wave;
   lines = every-lines;
   only = only-one;
+  sessions = together rows each-row;
+  sound = sound-says;
+  match = (or-match, and-match);
+  mode2 = mode2;
+  beyond = (not-read, not-changed);
+  always = after-any-session;
   calls = any-calls;
+  text = (export-reads, one-text);
   asking = who-is-asking;
 }

@@ -5,7 +5,15 @@ use mathlib.Core.List.{List}
 use Prim.Native.Nat.{ℕ}
 use Rattle.board.specs.declared.Board.{Board}
 use Rattle.pio.specs.Calls.{FreshCall, StepCall, RunCall, WaveCall, LinesCall}
+use Rattle.sessions.specs.Rows.{SessionsHold}
+use Rattle.sessions.specs.Sessions.{rows}
 use Rattle.demands.specs.Asks.{WhoIsAsking}
+use Rattle.meaning.specs.Sound.{SoundSays}
+use Rattle.meaning.specs.Match.{OrMatch, AndMatch}
+use Rattle.meaning.specs.Mode2.{Mode2}
+use Rattle.meaning.specs.Beyond.{NotRead, NotChanged}
+use Rattle.meaning.specs.Sessions.{AfterAnySession}
+use Rattle.viewer.specs.Recordings.{ExportReads, OneText}
 use Rattle.calls.specs.Answers.{EveryFresh, EveryStep, EveryRunCall, EveryWave, EveryLines}
 use Rattle.calls.specs.Session.{AnyCalls}
 
@@ -29,9 +37,17 @@ pub record Promise : Type 0 where
   pub run : EveryRunCall
   pub wave : EveryWave
   pub lines : EveryLines
-  -- 2. "After each event the registers, driven lines, Ready lines, request and vector are those of the Z80 PIO papers."
+  -- 2. "After each event the registers, driven lines, Ready lines, request and vector are those of the Z80 PIO papers": the sessions come
+  -- out as the papers say, and what the definitions mean is what document 01 says
   pub only : OnlyOne
+  pub sessions : SessionsHold rows
+  pub sound : SoundSays
+  pub match : OrMatch × AndMatch
+  pub mode2 : Mode2
+  pub beyond : NotRead × NotChanged
+  pub always : AfterAnySession
   -- 3. "The ports under service are always exactly that list. A waiting port never stops a RETI."
   pub calls : AnyCalls
-  -- Ask 2: "Make the request answer name the nearest asking place."
+  -- Ask 1: "a recording for the wave viewer". Ask 2: "make the request answer name the nearest asking place"
+  pub text : ExportReads × OneText
   pub asking : WhoIsAsking
