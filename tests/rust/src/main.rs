@@ -1,5 +1,6 @@
 //! Links libpio.a, runs the worked session of document 01 on a fresh board of four and prints its answers: number, code, place,
-//! value, request. Before that it reads a fresh and a programmed board back field by field and tries the refusals.
+//! value, request. Before that it reads a fresh and a programmed board back field by field and tries the refusals; after it the session is
+//! exported as a recording.
 
 mod pio;
 
@@ -190,7 +191,38 @@ fn refusals() {
     assert_eq!(pio::run(&mut board, &[], &mut answers, 12), (0, 0));
     assert_eq!(answers, [9; 50]);
 
+    // The export: 35, 32, 36, 41, 40.
+    let stamps = [0; 22];
+    let many = vec![0; 4 * 16_385];
+    let mut text = [9; 256];
+    let (short, odd) = (&events[1..], &stamps[1..]);
+    assert_eq!(pio::wave(&mut unsound, short, odd, &mut text), (35, 0));
+    for (events, stamps, code) in [
+        (short, odd, 32),
+        (&many, odd, 36),
+        (&events, odd, 41),
+        (&events, &stamps, 40),
+    ] {
+        assert_eq!(pio::wave(&mut board, events, stamps, &mut text), (code, 0));
+    }
+    assert_eq!(text, [9; 256]);
+
     assert_eq!((board, unsound), (sound_before, unsound_before));
+}
+
+/// The session as a recording, a record each microsecond, and the board as a run leaves it. The write raises the Ready of place 0, the
+/// strobe's rise lowers it and makes place 0 ask, and the acknowledge ends the asking.
+fn recording(ran: &Board) {
+    let events = SESSION.concat();
+    let stamps: Vec<u8> = (0..11).flat_map(|time: u16| time.to_le_bytes()).collect();
+    let mut board = fresh(4);
+    let mut text = [9; 257 + 39 * 11];
+    let (code, length) = pio::wave(&mut board, &events, &stamps, &mut text);
+    assert_eq!((code, board), (0, *ran));
+    assert!(text.starts_with(b"$timescale 1 us $end\n"));
+    let shown = b"#0\n0!\n0\"\n0#\n0$\n0%\n0&\n0'\n0(\n0)\n#4\n1\"\n#6\n1!\n0\"\n#7\n0!\n";
+    assert_eq!(&text[257..length], shown);
+    assert!(text[length..].iter().all(|byte| *byte == 9));
 }
 
 fn main() {
@@ -214,4 +246,5 @@ fn main() {
         println!("{} {code} {place} {value} {request}", i + 1);
     }
     assert_eq!(stepped, ran);
+    recording(&ran);
 }

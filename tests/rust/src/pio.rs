@@ -1,4 +1,4 @@
-//! libpio.a for Rust: the board's layout and the four functions. include/pio.h says what each answers and refuses.
+//! libpio.a for Rust: the board's layout and the five functions. include/pio.h says what each answers and refuses.
 
 use std::mem::{offset_of, size_of};
 
@@ -101,11 +101,21 @@ mod library {
             lines: *mut u8,
             lines_length: usize,
         ) -> u8;
+        pub fn pio_wave(
+            board: *mut Board,
+            events: *const u8,
+            events_length: usize,
+            stamps: *const u8,
+            stamps_length: usize,
+            text: *mut u8,
+            text_length: usize,
+            written: *mut usize,
+        ) -> u8;
     }
 }
 
 // A Rust reference is all that the library asks for: it points to a board whose flags are 0 or 1, a slice to as many bytes as it
-// says, and no two that are lent at once overlap. So these four are safe to call.
+// says, and no two that are lent at once overlap. So these five are safe to call.
 
 pub fn fresh(board: &mut Board, size: usize) -> u8 {
     unsafe { library::pio_fresh(board, size) }
@@ -127,4 +137,15 @@ pub fn run(board: &mut Board, events: &[u8], answers: &mut [u8], start: usize) -
 
 pub fn lines(board: &Board, place: usize, lines: &mut [u8]) -> u8 {
     unsafe { library::pio_lines(board, place, lines.as_mut_ptr(), lines.len()) }
+}
+
+/// The code, and the length of the text.
+pub fn wave(board: &mut Board, events: &[u8], stamps: &[u8], text: &mut [u8]) -> (u8, usize) {
+    let mut written = usize::MAX;
+    let (from, length) = (events.as_ptr(), events.len());
+    let (beside, stamps) = (stamps.as_ptr(), stamps.len());
+    let (to, room) = (text.as_mut_ptr(), text.len());
+    let code =
+        unsafe { library::pio_wave(board, from, length, beside, stamps, to, room, &mut written) };
+    (code, written)
 }
