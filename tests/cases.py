@@ -36,16 +36,19 @@ class Unreadable(Exception):
 
 class Case:
     """A line of cases.txt: the events as bytes, for each its wanted answer or None, the fields that are wanted as
-    (place, field, number), and the places of which every field is wanted as (place, {field: number})."""
+    (place, field, number), and the places of which every field is wanted as (place, {field: number}). `start` is the
+    earlier case whose events come first, or None; `events` has them too."""
 
-    def __init__(self, line, comment):
+    def __init__(self, line, comment, earlier):
         self.comment = comment
         head, rest = parted(line, ": ")
         events, wanted = parted(rest, " => ")
         self.name, size = parted(head, " ")
         self.size = int(size)
         self.code = MADE
-        turns = [turn(word) for word in events.split()]
+        first, _, others = events.partition(" ")
+        self.start = earlier[first[1:-1]] if first.startswith("(") else None
+        turns = [turn(word) for word in (others if self.start else events).split()]
         self.events = [event for event, _ in turns]
         self.answers = [answer for _, answer in turns]
         self.fields = []
@@ -54,6 +57,11 @@ class Case:
             self.want(word)
         if self.code == MADE and not any(self.answers) and not self.fields and not self.wholes:
             raise Unreadable(f"{self.name} wants nothing")
+        if self.start:
+            if self.start.size != self.size:
+                raise Unreadable(f"{self.name} begins as a case of another size")
+            self.events = self.start.events + self.events
+            self.answers = self.start.answers + self.answers
 
     def want(self, word):
         if word == f"fresh={NO_SIZE}":
@@ -106,15 +114,15 @@ def answer(word):
 def cases():
     """Every case, with the comment that stands above it or above the cases it is one of."""
     text = (pathlib.Path(__file__).parent / "cases.txt").read_text()
-    comment, seen = [], set()
+    comment, earlier = [], {}
     for line in text.splitlines():
         if line.startswith("#"):
             comment.append(line[1:].strip())
         elif line:
-            case = Case(line, comment)
-            if case.name in seen:
+            case = Case(line, comment, earlier)
+            if case.name in earlier:
                 raise Unreadable(f"two cases are called {case.name}")
-            seen.add(case.name)
+            earlier[case.name] = case
             yield case
             comment = []
         else:

@@ -54,7 +54,7 @@ unfolding if_then_else_ matchOf mixedOf levelsOf matchNow soundChip eventOf ackn
 each-row =
 """
 WORDS = ("bytes reset fetch acknowledge control write read strobe-to lines-to _gives_ _≔_ some every Row session "
-         "refused").split()
+         "refused after").split()
 
 
 def listed(words):
@@ -97,16 +97,16 @@ def wanted(case):
         yield f"every {place} {settings(pairs.items())}"
 
 
-def filled(words):
+def filled(opening, words):
     """A list in parentheses, over as many lines as it needs."""
-    lines, line = [], "    ("
-    for word in words:
+    lines, line = [], f"    ({opening}"
+    for at, word in enumerate(words):
         piece = f"{word} ∷ "
-        if len(line) + len(piece) > WIDTH and line.strip() != "(":
+        if len(line) + len(piece) > WIDTH and at > 0:
             lines.append(line.rstrip())
             line = "    "
         line += piece
-    return lines + [line + "[])"]
+    return lines + [line + "[])" + ")" * opening.count("(")]
 
 
 def row(case):
@@ -115,8 +115,11 @@ def row(case):
     yield f"abbrev pub {title(case)} : Row"
     yield f"{title(case)} ="
     yield f'    {maker} "{case.name}" {case.size}'
-    yield from filled(turn(numbers, answer) for numbers, answer in zip(case.events, case.answers))
-    yield from filled(wanted(case))
+    begun = len(case.start.events) if case.start else 0
+    opening = f"after {title(case.start)} (" if case.start else ""
+    turns = zip(case.events[begun:], case.answers[begun:])
+    yield from filled(opening, [turn(numbers, answer) for numbers, answer in turns])
+    yield from filled("", wanted(case))
     yield ""
 
 

@@ -19,13 +19,16 @@ pub struct Case {
 }
 
 pub fn read(text: &str) -> Vec<Case> {
-    text.lines()
-        .filter(|line| !line.is_empty() && !line.starts_with('#'))
-        .map(case)
-        .collect()
+    let mut cases = Vec::new();
+    for line in text.lines() {
+        if !line.is_empty() && !line.starts_with('#') {
+            cases.push(case(line, &cases));
+        }
+    }
+    cases
 }
 
-fn case(line: &str) -> Case {
+fn case(line: &str, earlier: &[Case]) -> Case {
     let (head, rest) = line.split_once(": ").expect(line);
     let (name, size) = head.split_once(' ').expect(line);
     let (events, wanted) = rest.split_once(" => ").expect(line);
@@ -33,9 +36,22 @@ fn case(line: &str) -> Case {
         name: name.to_string(),
         size: size.parse().expect(line),
         code: DONE,
-        events: events.split_whitespace().map(event).collect(),
+        events: Vec::new(),
         fields: Vec::new(),
     };
+    for word in events.split_whitespace() {
+        match word
+            .strip_prefix('(')
+            .and_then(|rest| rest.strip_suffix(')'))
+        {
+            Some(name) => {
+                let start = earlier.iter().find(|case| case.name == name).expect(word);
+                assert_eq!(start.size, case.size, "{line}");
+                case.events.extend_from_slice(&start.events);
+            }
+            None => case.events.push(event(word)),
+        }
+    }
     for word in wanted.split_whitespace() {
         case.want(word);
     }

@@ -31,4 +31,5 @@ each-row =
     refl also refl also refl also refl also refl also refl also refl also refl also refl also refl also refl also refl also refl also
     refl also refl also refl also refl also refl also refl also refl also refl also refl also refl also refl also refl also refl also
     refl also refl also refl also refl also refl also refl also refl also refl also refl also refl also refl also refl also refl also
-    refl also refl also refl also refl also refl also refl also refl also refl also refl also refl also none
+    refl also refl also refl also refl also refl also refl also refl also refl also refl also refl also refl also refl also refl also
+    refl also refl also refl also refl also refl also refl also refl also refl also refl also refl also refl also refl also none

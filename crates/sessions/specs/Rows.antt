@@ -5,7 +5,7 @@ use Prim.Native.Nat.{ℕ}
 use Prim.Native.String.{String}
 use mathlib.Core.Path.{_≡_}
 use mathlib.Core.Bool.{Bool, true, false, _&&_}
-use mathlib.Core.List.{List, [], _∷_}
+use mathlib.Core.List.{List, [], _∷_, _++_}
 use lib.ListN.{getD, set, replicate}
 use Rattle.bits.specs.Bits.{if_then_else_, _is_}
 use Rattle.port.specs.Rules.{served, freshPort}
@@ -169,6 +169,11 @@ pub data Wanted : Type 0 where
 pub data Row : Type 0 where
   session : String → ℕ → List Turn → List Wanted → Row
   refused : String → ℕ → List Turn → List Wanted → Row
+
+-- the events of an earlier row, and then these
+abbrev pub after : Row → List Turn → List Turn
+after (session name n ts ws) more = ts ++ more
+after (refused name n ts ws) more = ts ++ more
 
 -- ---- working a row out
 abbrev pub same : List ℕ → List ℕ → Bool
