@@ -32,4 +32,6 @@ each-row =
     refl also refl also refl also refl also refl also refl also refl also refl also refl also refl also refl also refl also refl also
     refl also refl also refl also refl also refl also refl also refl also refl also refl also refl also refl also refl also refl also
     refl also refl also refl also refl also refl also refl also refl also refl also refl also refl also refl also refl also refl also
-    refl also refl also refl also refl also refl also refl also refl also refl also refl also refl also refl also refl also none
+    refl also refl also refl also refl also refl also refl also refl also refl also refl also refl also refl also refl also refl also
+    refl also refl also refl also refl also refl also refl also refl also refl also refl also refl also refl also refl also refl also
+    refl also refl also refl also refl also refl also refl also refl also refl also none

@@ -391,8 +391,8 @@ R15 =
     every 1 (mode ≔ 3 ∷ lines ≔ 255 ∷ vector ≔ 64 ∷ select ≔ 240 ∷ mask ≔ 15 ∷ high ≔ 1 ∷ asked ≔ 1 ∷ live ≔ 1 ∷ service ≔ 1 ∷ matched ≔ 1 ∷ driven ≔ 15 ∷ []) ∷ [])
 
 -- F1: two chips on which little is as on a fresh board: 0 and 2 have every flag set and their strobes low, 1 and 3
--- have none. 0 is in mode 0, 1 and 2 in mode 1, 3 in mode 3. The cases after it hold each event to what its rule
--- changes
+-- have none, but 3 is asked and not live. 0 is in mode 0, 1 and 2 in mode 1, 3 in mode 3. The cases after it hold each
+-- event to what its rule changes
 abbrev pub F1 : Row
 F1 =
     session "F1" 2
@@ -403,13 +403,13 @@ F1 =
     control 3 79 ∷ control 3 23 ∷ control 3 147 ∷ control 3 70 ∷ lines-to 3 238 ∷ control 3 207 ∷ control 3 108 ∷ write 3 44 ∷
     control 0 231 ∷ control 2 231 ∷ fetch 0x00 ∷ strobe-to 2 0 ∷ strobe-to 2 1 ∷ acknowledge ∷ strobe-to 0 0 ∷ strobe-to 0 1 ∷
     acknowledge ∷ strobe-to 0 0 ∷ strobe-to 0 1 ∷ strobe-to 2 0 ∷ strobe-to 2 1 ∷ control 0 15 ∷ write 0 165 ∷ strobe-to 0 0 ∷
-    lines-to 0 170 ∷ strobe-to 2 0 ∷ lines-to 2 51 ∷ read 2 ∷ control 1 23 ∷ [])
+    lines-to 0 170 ∷ strobe-to 2 0 ∷ lines-to 2 51 ∷ read 2 ∷ control 1 23 ∷ control 3 131 ∷ [])
     (every 0 (mode ≔ 0 ∷ ready ≔ 1 ∷ out ≔ 165 ∷ input ≔ 85 ∷ lines ≔ 170 ∷ strobe ≔ 0 ∷ vector ≔ 16 ∷ select ≔ 90 ∷ mask ≔ 102 ∷ and ≔ 1 ∷ high ≔ 1 ∷ asked ≔ 1 ∷ live ≔ 1 ∷ waiting ≔ 1 ∷ service ≔ 1 ∷ levels ≔ 165 ∷ driven ≔ 255 ∷ []) ∷
     every 1 (out ≔ 33 ∷ input ≔ 77 ∷ lines ≔ 40 ∷ vector ≔ 34 ∷ select ≔ 150 ∷ mask ≔ 105 ∷ awaiting ≔ 2 ∷ []) ∷
     every 2 (ready ≔ 1 ∷ out ≔ 89 ∷ input ≔ 51 ∷ lines ≔ 51 ∷ strobe ≔ 0 ∷ vector ≔ 52 ∷ select ≔ 60 ∷ mask ≔ 195 ∷ and ≔ 1 ∷ high ≔ 1 ∷ asked ≔ 1 ∷ live ≔ 1 ∷ waiting ≔ 1 ∷ service ≔ 1 ∷ []) ∷
-    every 3 (mode ≔ 3 ∷ out ≔ 44 ∷ input ≔ 99 ∷ lines ≔ 238 ∷ vector ≔ 70 ∷ select ≔ 108 ∷ mask ≔ 147 ∷ driven ≔ 147 ∷ []) ∷ [])
+    every 3 (mode ≔ 3 ∷ out ≔ 44 ∷ input ≔ 99 ∷ lines ≔ 238 ∷ vector ≔ 70 ∷ select ≔ 108 ∷ mask ≔ 147 ∷ asked ≔ 1 ∷ driven ≔ 147 ∷ []) ∷ [])
 
--- F2: a fetch, when every asked port is live
+-- F2: a fetch: the asked port is live
 abbrev pub F2 : Row
 F2 =
     session "F2" 2
@@ -417,7 +417,7 @@ F2 =
     (every 0 (mode ≔ 0 ∷ ready ≔ 1 ∷ out ≔ 165 ∷ input ≔ 85 ∷ lines ≔ 170 ∷ strobe ≔ 0 ∷ vector ≔ 16 ∷ select ≔ 90 ∷ mask ≔ 102 ∷ and ≔ 1 ∷ high ≔ 1 ∷ asked ≔ 1 ∷ live ≔ 1 ∷ waiting ≔ 1 ∷ service ≔ 1 ∷ levels ≔ 165 ∷ driven ≔ 255 ∷ []) ∷
     every 1 (out ≔ 33 ∷ input ≔ 77 ∷ lines ≔ 40 ∷ vector ≔ 34 ∷ select ≔ 150 ∷ mask ≔ 105 ∷ awaiting ≔ 2 ∷ []) ∷
     every 2 (ready ≔ 1 ∷ out ≔ 89 ∷ input ≔ 51 ∷ lines ≔ 51 ∷ strobe ≔ 0 ∷ vector ≔ 52 ∷ select ≔ 60 ∷ mask ≔ 195 ∷ and ≔ 1 ∷ high ≔ 1 ∷ asked ≔ 1 ∷ live ≔ 1 ∷ waiting ≔ 1 ∷ service ≔ 1 ∷ []) ∷
-    every 3 (mode ≔ 3 ∷ out ≔ 44 ∷ input ≔ 99 ∷ lines ≔ 238 ∷ vector ≔ 70 ∷ select ≔ 108 ∷ mask ≔ 147 ∷ driven ≔ 147 ∷ []) ∷ [])
+    every 3 (mode ≔ 3 ∷ out ≔ 44 ∷ input ≔ 99 ∷ lines ≔ 238 ∷ vector ≔ 70 ∷ select ≔ 108 ∷ mask ≔ 147 ∷ asked ≔ 1 ∷ live ≔ 1 ∷ driven ≔ 147 ∷ []) ∷ [])
 
 -- F3: an acknowledge that nobody answers
 abbrev pub F3 : Row
@@ -427,117 +427,117 @@ F3 =
     (every 0 (mode ≔ 0 ∷ ready ≔ 1 ∷ out ≔ 165 ∷ input ≔ 85 ∷ lines ≔ 170 ∷ strobe ≔ 0 ∷ vector ≔ 16 ∷ select ≔ 90 ∷ mask ≔ 102 ∷ and ≔ 1 ∷ high ≔ 1 ∷ asked ≔ 1 ∷ live ≔ 1 ∷ waiting ≔ 1 ∷ service ≔ 1 ∷ levels ≔ 165 ∷ driven ≔ 255 ∷ []) ∷
     every 1 (out ≔ 33 ∷ input ≔ 77 ∷ lines ≔ 40 ∷ vector ≔ 34 ∷ select ≔ 150 ∷ mask ≔ 105 ∷ awaiting ≔ 2 ∷ []) ∷
     every 2 (ready ≔ 1 ∷ out ≔ 89 ∷ input ≔ 51 ∷ lines ≔ 51 ∷ strobe ≔ 0 ∷ vector ≔ 52 ∷ select ≔ 60 ∷ mask ≔ 195 ∷ and ≔ 1 ∷ high ≔ 1 ∷ asked ≔ 1 ∷ live ≔ 1 ∷ waiting ≔ 1 ∷ service ≔ 1 ∷ []) ∷
-    every 3 (mode ≔ 3 ∷ out ≔ 44 ∷ input ≔ 99 ∷ lines ≔ 238 ∷ vector ≔ 70 ∷ select ≔ 108 ∷ mask ≔ 147 ∷ driven ≔ 147 ∷ []) ∷ [])
+    every 3 (mode ≔ 3 ∷ out ≔ 44 ∷ input ≔ 99 ∷ lines ≔ 238 ∷ vector ≔ 70 ∷ select ≔ 108 ∷ mask ≔ 147 ∷ asked ≔ 1 ∷ driven ≔ 147 ∷ []) ∷ [])
 
 -- F4: vector words: the vector alone
 abbrev pub F4 : Row
 F4 =
     session "F4" 2
-    (after F1 (control 0 18 ∷ control 3 72 gives answer 0 3 72 0 ∷ []))
+    (after F1 (control 0 18 ∷ control 2 54 ∷ control 3 72 gives answer 0 3 72 0 ∷ []))
     (every 0 (mode ≔ 0 ∷ ready ≔ 1 ∷ out ≔ 165 ∷ input ≔ 85 ∷ lines ≔ 170 ∷ strobe ≔ 0 ∷ vector ≔ 18 ∷ select ≔ 90 ∷ mask ≔ 102 ∷ and ≔ 1 ∷ high ≔ 1 ∷ asked ≔ 1 ∷ live ≔ 1 ∷ waiting ≔ 1 ∷ service ≔ 1 ∷ levels ≔ 165 ∷ driven ≔ 255 ∷ []) ∷
     every 1 (out ≔ 33 ∷ input ≔ 77 ∷ lines ≔ 40 ∷ vector ≔ 34 ∷ select ≔ 150 ∷ mask ≔ 105 ∷ awaiting ≔ 2 ∷ []) ∷
-    every 2 (ready ≔ 1 ∷ out ≔ 89 ∷ input ≔ 51 ∷ lines ≔ 51 ∷ strobe ≔ 0 ∷ vector ≔ 52 ∷ select ≔ 60 ∷ mask ≔ 195 ∷ and ≔ 1 ∷ high ≔ 1 ∷ asked ≔ 1 ∷ live ≔ 1 ∷ waiting ≔ 1 ∷ service ≔ 1 ∷ []) ∷
-    every 3 (mode ≔ 3 ∷ out ≔ 44 ∷ input ≔ 99 ∷ lines ≔ 238 ∷ vector ≔ 72 ∷ select ≔ 108 ∷ mask ≔ 147 ∷ driven ≔ 147 ∷ []) ∷ [])
+    every 2 (ready ≔ 1 ∷ out ≔ 89 ∷ input ≔ 51 ∷ lines ≔ 51 ∷ strobe ≔ 0 ∷ vector ≔ 54 ∷ select ≔ 60 ∷ mask ≔ 195 ∷ and ≔ 1 ∷ high ≔ 1 ∷ asked ≔ 1 ∷ live ≔ 1 ∷ waiting ≔ 1 ∷ service ≔ 1 ∷ []) ∷
+    every 3 (mode ≔ 3 ∷ out ≔ 44 ∷ input ≔ 99 ∷ lines ≔ 238 ∷ vector ≔ 72 ∷ select ≔ 108 ∷ mask ≔ 147 ∷ asked ≔ 1 ∷ driven ≔ 147 ∷ []) ∷ [])
 
 -- F5: mode words: the mode, and Ready falls
 abbrev pub F5 : Row
 F5 =
     session "F5" 2
-    (after F1 (control 0 15 ∷ control 3 79 gives answer 0 3 79 0 ∷ []))
+    (after F1 (control 0 15 ∷ control 2 79 ∷ control 3 79 gives answer 0 3 79 0 ∷ []))
     (every 0 (mode ≔ 0 ∷ out ≔ 165 ∷ input ≔ 85 ∷ lines ≔ 170 ∷ strobe ≔ 0 ∷ vector ≔ 16 ∷ select ≔ 90 ∷ mask ≔ 102 ∷ and ≔ 1 ∷ high ≔ 1 ∷ asked ≔ 1 ∷ live ≔ 1 ∷ waiting ≔ 1 ∷ service ≔ 1 ∷ levels ≔ 165 ∷ driven ≔ 255 ∷ []) ∷
     every 1 (out ≔ 33 ∷ input ≔ 77 ∷ lines ≔ 40 ∷ vector ≔ 34 ∷ select ≔ 150 ∷ mask ≔ 105 ∷ awaiting ≔ 2 ∷ []) ∷
-    every 2 (ready ≔ 1 ∷ out ≔ 89 ∷ input ≔ 51 ∷ lines ≔ 51 ∷ strobe ≔ 0 ∷ vector ≔ 52 ∷ select ≔ 60 ∷ mask ≔ 195 ∷ and ≔ 1 ∷ high ≔ 1 ∷ asked ≔ 1 ∷ live ≔ 1 ∷ waiting ≔ 1 ∷ service ≔ 1 ∷ []) ∷
-    every 3 (out ≔ 44 ∷ input ≔ 99 ∷ lines ≔ 238 ∷ vector ≔ 70 ∷ select ≔ 108 ∷ mask ≔ 147 ∷ []) ∷ [])
+    every 2 (out ≔ 89 ∷ input ≔ 51 ∷ lines ≔ 51 ∷ strobe ≔ 0 ∷ vector ≔ 52 ∷ select ≔ 60 ∷ mask ≔ 195 ∷ and ≔ 1 ∷ high ≔ 1 ∷ asked ≔ 1 ∷ live ≔ 1 ∷ waiting ≔ 1 ∷ service ≔ 1 ∷ []) ∷
+    every 3 (out ≔ 44 ∷ input ≔ 99 ∷ lines ≔ 238 ∷ vector ≔ 70 ∷ select ≔ 108 ∷ mask ≔ 147 ∷ asked ≔ 1 ∷ []) ∷ [])
 
 -- F6: mode 3 words and select words: the mode, the select register, and Ready falls
 abbrev pub F6 : Row
 F6 =
     session "F6" 2
-    (after F1 (control 0 207 ∷ control 0 240 ∷ control 3 207 ∷ control 3 240 gives answer 0 3 240 0 ∷ []))
+    (after F1 (control 0 207 ∷ control 0 240 ∷ control 2 207 ∷ control 2 15 ∷ control 3 207 ∷ control 3 240 gives answer 0 3 240 0 ∷ []))
     (every 0 (mode ≔ 3 ∷ out ≔ 165 ∷ input ≔ 85 ∷ lines ≔ 170 ∷ strobe ≔ 0 ∷ vector ≔ 16 ∷ select ≔ 240 ∷ mask ≔ 102 ∷ and ≔ 1 ∷ high ≔ 1 ∷ asked ≔ 1 ∷ live ≔ 1 ∷ waiting ≔ 1 ∷ service ≔ 1 ∷ levels ≔ 5 ∷ driven ≔ 15 ∷ []) ∷
     every 1 (out ≔ 33 ∷ input ≔ 77 ∷ lines ≔ 40 ∷ vector ≔ 34 ∷ select ≔ 150 ∷ mask ≔ 105 ∷ awaiting ≔ 2 ∷ []) ∷
-    every 2 (ready ≔ 1 ∷ out ≔ 89 ∷ input ≔ 51 ∷ lines ≔ 51 ∷ strobe ≔ 0 ∷ vector ≔ 52 ∷ select ≔ 60 ∷ mask ≔ 195 ∷ and ≔ 1 ∷ high ≔ 1 ∷ asked ≔ 1 ∷ live ≔ 1 ∷ waiting ≔ 1 ∷ service ≔ 1 ∷ []) ∷
-    every 3 (mode ≔ 3 ∷ out ≔ 44 ∷ input ≔ 99 ∷ lines ≔ 238 ∷ vector ≔ 70 ∷ select ≔ 240 ∷ mask ≔ 147 ∷ levels ≔ 12 ∷ driven ≔ 15 ∷ []) ∷ [])
+    every 2 (mode ≔ 3 ∷ out ≔ 89 ∷ input ≔ 51 ∷ lines ≔ 51 ∷ strobe ≔ 0 ∷ vector ≔ 52 ∷ select ≔ 15 ∷ mask ≔ 195 ∷ and ≔ 1 ∷ high ≔ 1 ∷ asked ≔ 1 ∷ live ≔ 1 ∷ waiting ≔ 1 ∷ service ≔ 1 ∷ levels ≔ 80 ∷ driven ≔ 240 ∷ []) ∷
+    every 3 (mode ≔ 3 ∷ out ≔ 44 ∷ input ≔ 99 ∷ lines ≔ 238 ∷ vector ≔ 70 ∷ select ≔ 240 ∷ mask ≔ 147 ∷ asked ≔ 1 ∷ levels ≔ 12 ∷ driven ≔ 15 ∷ []) ∷ [])
 
 -- F7: interrupt control words that say what is so already
 abbrev pub F7 : Row
 F7 =
     session "F7" 2
-    (after F1 (control 0 231 ∷ control 3 7 gives answer 0 3 7 0 ∷ []))
+    (after F1 (control 0 231 ∷ control 2 231 ∷ control 3 135 gives answer 0 3 135 0 ∷ []))
     (every 0 (mode ≔ 0 ∷ ready ≔ 1 ∷ out ≔ 165 ∷ input ≔ 85 ∷ lines ≔ 170 ∷ strobe ≔ 0 ∷ vector ≔ 16 ∷ select ≔ 90 ∷ mask ≔ 102 ∷ and ≔ 1 ∷ high ≔ 1 ∷ asked ≔ 1 ∷ live ≔ 1 ∷ waiting ≔ 1 ∷ service ≔ 1 ∷ levels ≔ 165 ∷ driven ≔ 255 ∷ []) ∷
     every 1 (out ≔ 33 ∷ input ≔ 77 ∷ lines ≔ 40 ∷ vector ≔ 34 ∷ select ≔ 150 ∷ mask ≔ 105 ∷ awaiting ≔ 2 ∷ []) ∷
     every 2 (ready ≔ 1 ∷ out ≔ 89 ∷ input ≔ 51 ∷ lines ≔ 51 ∷ strobe ≔ 0 ∷ vector ≔ 52 ∷ select ≔ 60 ∷ mask ≔ 195 ∷ and ≔ 1 ∷ high ≔ 1 ∷ asked ≔ 1 ∷ live ≔ 1 ∷ waiting ≔ 1 ∷ service ≔ 1 ∷ []) ∷
-    every 3 (mode ≔ 3 ∷ out ≔ 44 ∷ input ≔ 99 ∷ lines ≔ 238 ∷ vector ≔ 70 ∷ select ≔ 108 ∷ mask ≔ 147 ∷ driven ≔ 147 ∷ []) ∷ [])
+    every 3 (mode ≔ 3 ∷ out ≔ 44 ∷ input ≔ 99 ∷ lines ≔ 238 ∷ vector ≔ 70 ∷ select ≔ 108 ∷ mask ≔ 147 ∷ asked ≔ 1 ∷ driven ≔ 147 ∷ []) ∷ [])
 
 -- F8: interrupt control words with bit 4: no longer waiting, not live, mask awaited
 abbrev pub F8 : Row
 F8 =
     session "F8" 2
-    (after F1 (control 0 247 ∷ control 3 23 gives answer 0 3 23 0 ∷ []))
+    (after F1 (control 0 247 ∷ control 2 247 ∷ control 3 151 gives answer 0 3 151 0 ∷ []))
     (every 0 (mode ≔ 0 ∷ ready ≔ 1 ∷ out ≔ 165 ∷ input ≔ 85 ∷ lines ≔ 170 ∷ strobe ≔ 0 ∷ vector ≔ 16 ∷ select ≔ 90 ∷ mask ≔ 102 ∷ and ≔ 1 ∷ high ≔ 1 ∷ asked ≔ 1 ∷ service ≔ 1 ∷ awaiting ≔ 2 ∷ levels ≔ 165 ∷ driven ≔ 255 ∷ []) ∷
     every 1 (out ≔ 33 ∷ input ≔ 77 ∷ lines ≔ 40 ∷ vector ≔ 34 ∷ select ≔ 150 ∷ mask ≔ 105 ∷ awaiting ≔ 2 ∷ []) ∷
-    every 2 (ready ≔ 1 ∷ out ≔ 89 ∷ input ≔ 51 ∷ lines ≔ 51 ∷ strobe ≔ 0 ∷ vector ≔ 52 ∷ select ≔ 60 ∷ mask ≔ 195 ∷ and ≔ 1 ∷ high ≔ 1 ∷ asked ≔ 1 ∷ live ≔ 1 ∷ waiting ≔ 1 ∷ service ≔ 1 ∷ []) ∷
-    every 3 (mode ≔ 3 ∷ out ≔ 44 ∷ input ≔ 99 ∷ lines ≔ 238 ∷ vector ≔ 70 ∷ select ≔ 108 ∷ mask ≔ 147 ∷ awaiting ≔ 2 ∷ driven ≔ 147 ∷ []) ∷ [])
+    every 2 (ready ≔ 1 ∷ out ≔ 89 ∷ input ≔ 51 ∷ lines ≔ 51 ∷ strobe ≔ 0 ∷ vector ≔ 52 ∷ select ≔ 60 ∷ mask ≔ 195 ∷ and ≔ 1 ∷ high ≔ 1 ∷ asked ≔ 1 ∷ service ≔ 1 ∷ awaiting ≔ 2 ∷ []) ∷
+    every 3 (mode ≔ 3 ∷ out ≔ 44 ∷ input ≔ 99 ∷ lines ≔ 238 ∷ vector ≔ 70 ∷ select ≔ 108 ∷ mask ≔ 147 ∷ asked ≔ 1 ∷ awaiting ≔ 2 ∷ driven ≔ 147 ∷ []) ∷ [])
 
 -- F9: and masks: the mask too
 abbrev pub F9 : Row
 F9 =
     session "F9" 2
-    (after F1 (control 0 247 ∷ control 0 60 ∷ control 3 23 ∷ control 3 60 gives answer 0 3 60 0 ∷ []))
+    (after F1 (control 0 247 ∷ control 0 60 ∷ control 2 247 ∷ control 2 60 ∷ control 3 151 ∷ control 3 60 gives answer 0 3 60 0 ∷ []))
     (every 0 (mode ≔ 0 ∷ ready ≔ 1 ∷ out ≔ 165 ∷ input ≔ 85 ∷ lines ≔ 170 ∷ strobe ≔ 0 ∷ vector ≔ 16 ∷ select ≔ 90 ∷ mask ≔ 60 ∷ and ≔ 1 ∷ high ≔ 1 ∷ asked ≔ 1 ∷ service ≔ 1 ∷ levels ≔ 165 ∷ driven ≔ 255 ∷ []) ∷
     every 1 (out ≔ 33 ∷ input ≔ 77 ∷ lines ≔ 40 ∷ vector ≔ 34 ∷ select ≔ 150 ∷ mask ≔ 105 ∷ awaiting ≔ 2 ∷ []) ∷
-    every 2 (ready ≔ 1 ∷ out ≔ 89 ∷ input ≔ 51 ∷ lines ≔ 51 ∷ strobe ≔ 0 ∷ vector ≔ 52 ∷ select ≔ 60 ∷ mask ≔ 195 ∷ and ≔ 1 ∷ high ≔ 1 ∷ asked ≔ 1 ∷ live ≔ 1 ∷ waiting ≔ 1 ∷ service ≔ 1 ∷ []) ∷
-    every 3 (mode ≔ 3 ∷ out ≔ 44 ∷ input ≔ 99 ∷ lines ≔ 238 ∷ vector ≔ 70 ∷ select ≔ 108 ∷ mask ≔ 60 ∷ driven ≔ 147 ∷ []) ∷ [])
+    every 2 (ready ≔ 1 ∷ out ≔ 89 ∷ input ≔ 51 ∷ lines ≔ 51 ∷ strobe ≔ 0 ∷ vector ≔ 52 ∷ select ≔ 60 ∷ mask ≔ 60 ∷ and ≔ 1 ∷ high ≔ 1 ∷ asked ≔ 1 ∷ service ≔ 1 ∷ []) ∷
+    every 3 (mode ≔ 3 ∷ out ≔ 44 ∷ input ≔ 99 ∷ lines ≔ 238 ∷ vector ≔ 70 ∷ select ≔ 108 ∷ mask ≔ 60 ∷ asked ≔ 1 ∷ driven ≔ 147 ∷ []) ∷ [])
 
 -- F10: enable words that say what is so already
 abbrev pub F10 : Row
 F10 =
     session "F10" 2
-    (after F1 (control 0 131 ∷ control 3 3 gives answer 0 3 3 0 ∷ []))
+    (after F1 (control 0 131 ∷ control 2 131 ∷ control 3 131 gives answer 0 3 131 0 ∷ []))
     (every 0 (mode ≔ 0 ∷ ready ≔ 1 ∷ out ≔ 165 ∷ input ≔ 85 ∷ lines ≔ 170 ∷ strobe ≔ 0 ∷ vector ≔ 16 ∷ select ≔ 90 ∷ mask ≔ 102 ∷ and ≔ 1 ∷ high ≔ 1 ∷ asked ≔ 1 ∷ live ≔ 1 ∷ waiting ≔ 1 ∷ service ≔ 1 ∷ levels ≔ 165 ∷ driven ≔ 255 ∷ []) ∷
     every 1 (out ≔ 33 ∷ input ≔ 77 ∷ lines ≔ 40 ∷ vector ≔ 34 ∷ select ≔ 150 ∷ mask ≔ 105 ∷ awaiting ≔ 2 ∷ []) ∷
     every 2 (ready ≔ 1 ∷ out ≔ 89 ∷ input ≔ 51 ∷ lines ≔ 51 ∷ strobe ≔ 0 ∷ vector ≔ 52 ∷ select ≔ 60 ∷ mask ≔ 195 ∷ and ≔ 1 ∷ high ≔ 1 ∷ asked ≔ 1 ∷ live ≔ 1 ∷ waiting ≔ 1 ∷ service ≔ 1 ∷ []) ∷
-    every 3 (mode ≔ 3 ∷ out ≔ 44 ∷ input ≔ 99 ∷ lines ≔ 238 ∷ vector ≔ 70 ∷ select ≔ 108 ∷ mask ≔ 147 ∷ driven ≔ 147 ∷ []) ∷ [])
+    every 3 (mode ≔ 3 ∷ out ≔ 44 ∷ input ≔ 99 ∷ lines ≔ 238 ∷ vector ≔ 70 ∷ select ≔ 108 ∷ mask ≔ 147 ∷ asked ≔ 1 ∷ driven ≔ 147 ∷ []) ∷ [])
 
 -- F11: writes: the output register
 abbrev pub F11 : Row
 F11 =
     session "F11" 2
-    (after F1 (write 0 66 ∷ write 3 77 gives answer 0 3 77 0 ∷ []))
+    (after F1 (write 0 66 ∷ write 2 67 ∷ write 3 77 gives answer 0 3 77 0 ∷ []))
     (every 0 (mode ≔ 0 ∷ ready ≔ 1 ∷ out ≔ 66 ∷ input ≔ 85 ∷ lines ≔ 170 ∷ strobe ≔ 0 ∷ vector ≔ 16 ∷ select ≔ 90 ∷ mask ≔ 102 ∷ and ≔ 1 ∷ high ≔ 1 ∷ asked ≔ 1 ∷ live ≔ 1 ∷ waiting ≔ 1 ∷ service ≔ 1 ∷ levels ≔ 66 ∷ driven ≔ 255 ∷ []) ∷
     every 1 (out ≔ 33 ∷ input ≔ 77 ∷ lines ≔ 40 ∷ vector ≔ 34 ∷ select ≔ 150 ∷ mask ≔ 105 ∷ awaiting ≔ 2 ∷ []) ∷
-    every 2 (ready ≔ 1 ∷ out ≔ 89 ∷ input ≔ 51 ∷ lines ≔ 51 ∷ strobe ≔ 0 ∷ vector ≔ 52 ∷ select ≔ 60 ∷ mask ≔ 195 ∷ and ≔ 1 ∷ high ≔ 1 ∷ asked ≔ 1 ∷ live ≔ 1 ∷ waiting ≔ 1 ∷ service ≔ 1 ∷ []) ∷
-    every 3 (mode ≔ 3 ∷ out ≔ 77 ∷ input ≔ 99 ∷ lines ≔ 238 ∷ vector ≔ 70 ∷ select ≔ 108 ∷ mask ≔ 147 ∷ levels ≔ 1 ∷ driven ≔ 147 ∷ []) ∷ [])
+    every 2 (ready ≔ 1 ∷ out ≔ 67 ∷ input ≔ 51 ∷ lines ≔ 51 ∷ strobe ≔ 0 ∷ vector ≔ 52 ∷ select ≔ 60 ∷ mask ≔ 195 ∷ and ≔ 1 ∷ high ≔ 1 ∷ asked ≔ 1 ∷ live ≔ 1 ∷ waiting ≔ 1 ∷ service ≔ 1 ∷ []) ∷
+    every 3 (mode ≔ 3 ∷ out ≔ 77 ∷ input ≔ 99 ∷ lines ≔ 238 ∷ vector ≔ 70 ∷ select ≔ 108 ∷ mask ≔ 147 ∷ asked ≔ 1 ∷ levels ≔ 1 ∷ driven ≔ 147 ∷ []) ∷ [])
 
--- F12: reads in modes 0 and 3: nothing
+-- F12: reads: nothing, since Ready is high at 2
 abbrev pub F12 : Row
 F12 =
     session "F12" 2
-    (after F1 (read 0 ∷ read 3 gives answer 1 3 108 0 ∷ []))
+    (after F1 (read 0 ∷ read 2 ∷ read 3 gives answer 1 3 108 0 ∷ []))
     (every 0 (mode ≔ 0 ∷ ready ≔ 1 ∷ out ≔ 165 ∷ input ≔ 85 ∷ lines ≔ 170 ∷ strobe ≔ 0 ∷ vector ≔ 16 ∷ select ≔ 90 ∷ mask ≔ 102 ∷ and ≔ 1 ∷ high ≔ 1 ∷ asked ≔ 1 ∷ live ≔ 1 ∷ waiting ≔ 1 ∷ service ≔ 1 ∷ levels ≔ 165 ∷ driven ≔ 255 ∷ []) ∷
     every 1 (out ≔ 33 ∷ input ≔ 77 ∷ lines ≔ 40 ∷ vector ≔ 34 ∷ select ≔ 150 ∷ mask ≔ 105 ∷ awaiting ≔ 2 ∷ []) ∷
     every 2 (ready ≔ 1 ∷ out ≔ 89 ∷ input ≔ 51 ∷ lines ≔ 51 ∷ strobe ≔ 0 ∷ vector ≔ 52 ∷ select ≔ 60 ∷ mask ≔ 195 ∷ and ≔ 1 ∷ high ≔ 1 ∷ asked ≔ 1 ∷ live ≔ 1 ∷ waiting ≔ 1 ∷ service ≔ 1 ∷ []) ∷
-    every 3 (mode ≔ 3 ∷ out ≔ 44 ∷ input ≔ 99 ∷ lines ≔ 238 ∷ vector ≔ 70 ∷ select ≔ 108 ∷ mask ≔ 147 ∷ driven ≔ 147 ∷ []) ∷ [])
+    every 3 (mode ≔ 3 ∷ out ≔ 44 ∷ input ≔ 99 ∷ lines ≔ 238 ∷ vector ≔ 70 ∷ select ≔ 108 ∷ mask ≔ 147 ∷ asked ≔ 1 ∷ driven ≔ 147 ∷ []) ∷ [])
 
--- F13: strobes, a rise in mode 0 and a fall in mode 3: the level, and Ready falls at 0
+-- F13: strobes, rises in modes 0 and 1 and a fall in mode 3: the level, and Ready falls at 0 and 2
 abbrev pub F13 : Row
 F13 =
     session "F13" 2
-    (after F1 (strobe-to 0 1 ∷ strobe-to 3 0 gives answer 0 3 0 0 ∷ []))
+    (after F1 (strobe-to 0 1 ∷ strobe-to 2 1 ∷ strobe-to 3 0 gives answer 0 3 0 0 ∷ []))
     (every 0 (mode ≔ 0 ∷ out ≔ 165 ∷ input ≔ 85 ∷ lines ≔ 170 ∷ vector ≔ 16 ∷ select ≔ 90 ∷ mask ≔ 102 ∷ and ≔ 1 ∷ high ≔ 1 ∷ asked ≔ 1 ∷ live ≔ 1 ∷ waiting ≔ 1 ∷ service ≔ 1 ∷ levels ≔ 165 ∷ driven ≔ 255 ∷ []) ∷
     every 1 (out ≔ 33 ∷ input ≔ 77 ∷ lines ≔ 40 ∷ vector ≔ 34 ∷ select ≔ 150 ∷ mask ≔ 105 ∷ awaiting ≔ 2 ∷ []) ∷
-    every 2 (ready ≔ 1 ∷ out ≔ 89 ∷ input ≔ 51 ∷ lines ≔ 51 ∷ strobe ≔ 0 ∷ vector ≔ 52 ∷ select ≔ 60 ∷ mask ≔ 195 ∷ and ≔ 1 ∷ high ≔ 1 ∷ asked ≔ 1 ∷ live ≔ 1 ∷ waiting ≔ 1 ∷ service ≔ 1 ∷ []) ∷
-    every 3 (mode ≔ 3 ∷ out ≔ 44 ∷ input ≔ 99 ∷ lines ≔ 238 ∷ strobe ≔ 0 ∷ vector ≔ 70 ∷ select ≔ 108 ∷ mask ≔ 147 ∷ driven ≔ 147 ∷ []) ∷ [])
+    every 2 (out ≔ 89 ∷ input ≔ 51 ∷ lines ≔ 51 ∷ vector ≔ 52 ∷ select ≔ 60 ∷ mask ≔ 195 ∷ and ≔ 1 ∷ high ≔ 1 ∷ asked ≔ 1 ∷ live ≔ 1 ∷ waiting ≔ 1 ∷ service ≔ 1 ∷ []) ∷
+    every 3 (mode ≔ 3 ∷ out ≔ 44 ∷ input ≔ 99 ∷ lines ≔ 238 ∷ strobe ≔ 0 ∷ vector ≔ 70 ∷ select ≔ 108 ∷ mask ≔ 147 ∷ asked ≔ 1 ∷ driven ≔ 147 ∷ []) ∷ [])
 
--- F14: outside levels: the levels
+-- F14: outside levels: the levels, and the register that follows at 2
 abbrev pub F14 : Row
 F14 =
     session "F14" 2
-    (after F1 (lines-to 0 15 ∷ lines-to 3 255 gives answer 0 3 255 0 ∷ []))
+    (after F1 (lines-to 0 15 ∷ lines-to 2 15 ∷ lines-to 3 255 gives answer 0 3 255 0 ∷ []))
     (every 0 (mode ≔ 0 ∷ ready ≔ 1 ∷ out ≔ 165 ∷ input ≔ 85 ∷ lines ≔ 15 ∷ strobe ≔ 0 ∷ vector ≔ 16 ∷ select ≔ 90 ∷ mask ≔ 102 ∷ and ≔ 1 ∷ high ≔ 1 ∷ asked ≔ 1 ∷ live ≔ 1 ∷ waiting ≔ 1 ∷ service ≔ 1 ∷ levels ≔ 165 ∷ driven ≔ 255 ∷ []) ∷
     every 1 (out ≔ 33 ∷ input ≔ 77 ∷ lines ≔ 40 ∷ vector ≔ 34 ∷ select ≔ 150 ∷ mask ≔ 105 ∷ awaiting ≔ 2 ∷ []) ∷
-    every 2 (ready ≔ 1 ∷ out ≔ 89 ∷ input ≔ 51 ∷ lines ≔ 51 ∷ strobe ≔ 0 ∷ vector ≔ 52 ∷ select ≔ 60 ∷ mask ≔ 195 ∷ and ≔ 1 ∷ high ≔ 1 ∷ asked ≔ 1 ∷ live ≔ 1 ∷ waiting ≔ 1 ∷ service ≔ 1 ∷ []) ∷
-    every 3 (mode ≔ 3 ∷ out ≔ 44 ∷ input ≔ 99 ∷ lines ≔ 255 ∷ vector ≔ 70 ∷ select ≔ 108 ∷ mask ≔ 147 ∷ driven ≔ 147 ∷ []) ∷ [])
+    every 2 (ready ≔ 1 ∷ out ≔ 89 ∷ input ≔ 15 ∷ lines ≔ 15 ∷ strobe ≔ 0 ∷ vector ≔ 52 ∷ select ≔ 60 ∷ mask ≔ 195 ∷ and ≔ 1 ∷ high ≔ 1 ∷ asked ≔ 1 ∷ live ≔ 1 ∷ waiting ≔ 1 ∷ service ≔ 1 ∷ []) ∷
+    every 3 (mode ≔ 3 ∷ out ≔ 44 ∷ input ≔ 99 ∷ lines ≔ 255 ∷ vector ≔ 70 ∷ select ≔ 108 ∷ mask ≔ 147 ∷ asked ≔ 1 ∷ driven ≔ 147 ∷ []) ∷ [])
 
 -- F15: a reset
 abbrev pub F15 : Row
@@ -548,6 +548,139 @@ F15 =
     every 1 (input ≔ 77 ∷ lines ≔ 40 ∷ vector ≔ 34 ∷ select ≔ 150 ∷ []) ∷
     every 2 (input ≔ 51 ∷ lines ≔ 51 ∷ strobe ≔ 0 ∷ vector ≔ 52 ∷ select ≔ 60 ∷ and ≔ 1 ∷ high ≔ 1 ∷ []) ∷
     every 3 (input ≔ 99 ∷ lines ≔ 238 ∷ vector ≔ 70 ∷ select ≔ 108 ∷ []) ∷ [])
+
+-- F16: a chip with A in mode 2 and B in mode 3, every flag of both set, A's strobe low and B's high. The cases after
+-- it hold each event at A and then at B to what its rule changes
+abbrev pub F16 : Row
+F16 =
+    session "F16" 1
+    (lines-to 0 85 ∷ strobe-to 0 0 ∷ strobe-to 0 1 ∷ control 0 207 ∷ control 0 90 ∷ control 0 79 ∷ control 0 55 ∷ control 0 102 ∷
+    control 0 16 ∷ lines-to 1 77 ∷ strobe-to 1 0 ∷ strobe-to 1 1 ∷ control 1 207 ∷ control 1 150 ∷ control 1 79 ∷ control 1 55 ∷
+    control 1 105 ∷ control 1 34 ∷ write 1 33 ∷ control 0 231 ∷ control 1 231 ∷ fetch 0x00 ∷ strobe-to 1 0 ∷ strobe-to 1 1 ∷
+    acknowledge ∷ strobe-to 0 0 ∷ strobe-to 0 1 ∷ acknowledge ∷ strobe-to 0 0 ∷ strobe-to 0 1 ∷ strobe-to 1 0 ∷ strobe-to 1 1 ∷
+    lines-to 1 40 ∷ control 1 207 ∷ control 1 150 ∷ control 0 143 ∷ write 0 165 ∷ read 0 ∷ strobe-to 0 0 ∷ lines-to 0 170 ∷ [])
+    (every 0 (mode ≔ 2 ∷ ready ≔ 1 ∷ out ≔ 165 ∷ input ≔ 85 ∷ lines ≔ 170 ∷ strobe ≔ 0 ∷ vector ≔ 16 ∷ select ≔ 90 ∷ mask ≔ 102 ∷ and ≔ 1 ∷ high ≔ 1 ∷ asked ≔ 1 ∷ live ≔ 1 ∷ waiting ≔ 1 ∷ service ≔ 1 ∷ levels ≔ 165 ∷ driven ≔ 255 ∷ []) ∷
+    every 1 (mode ≔ 3 ∷ ready ≔ 1 ∷ out ≔ 33 ∷ input ≔ 77 ∷ lines ≔ 40 ∷ vector ≔ 34 ∷ select ≔ 150 ∷ mask ≔ 105 ∷ and ≔ 1 ∷ high ≔ 1 ∷ asked ≔ 1 ∷ live ≔ 1 ∷ waiting ≔ 1 ∷ service ≔ 1 ∷ levels ≔ 33 ∷ driven ≔ 105 ∷ []) ∷ [])
+
+-- F17: a fetch
+abbrev pub F17 : Row
+F17 =
+    session "F17" 1
+    (after F16 (fetch 0x00 gives answer 0 0 0 0 ∷ []))
+    (every 0 (mode ≔ 2 ∷ ready ≔ 1 ∷ out ≔ 165 ∷ input ≔ 85 ∷ lines ≔ 170 ∷ strobe ≔ 0 ∷ vector ≔ 16 ∷ select ≔ 90 ∷ mask ≔ 102 ∷ and ≔ 1 ∷ high ≔ 1 ∷ asked ≔ 1 ∷ live ≔ 1 ∷ waiting ≔ 1 ∷ service ≔ 1 ∷ levels ≔ 165 ∷ driven ≔ 255 ∷ []) ∷
+    every 1 (mode ≔ 3 ∷ ready ≔ 1 ∷ out ≔ 33 ∷ input ≔ 77 ∷ lines ≔ 40 ∷ vector ≔ 34 ∷ select ≔ 150 ∷ mask ≔ 105 ∷ and ≔ 1 ∷ high ≔ 1 ∷ asked ≔ 1 ∷ live ≔ 1 ∷ waiting ≔ 1 ∷ service ≔ 1 ∷ levels ≔ 33 ∷ driven ≔ 105 ∷ []) ∷ [])
+
+-- F18: an acknowledge that nobody answers
+abbrev pub F18 : Row
+F18 =
+    session "F18" 1
+    (after F16 (acknowledge gives answer 3 0 255 0 ∷ []))
+    (every 0 (mode ≔ 2 ∷ ready ≔ 1 ∷ out ≔ 165 ∷ input ≔ 85 ∷ lines ≔ 170 ∷ strobe ≔ 0 ∷ vector ≔ 16 ∷ select ≔ 90 ∷ mask ≔ 102 ∷ and ≔ 1 ∷ high ≔ 1 ∷ asked ≔ 1 ∷ live ≔ 1 ∷ waiting ≔ 1 ∷ service ≔ 1 ∷ levels ≔ 165 ∷ driven ≔ 255 ∷ []) ∷
+    every 1 (mode ≔ 3 ∷ ready ≔ 1 ∷ out ≔ 33 ∷ input ≔ 77 ∷ lines ≔ 40 ∷ vector ≔ 34 ∷ select ≔ 150 ∷ mask ≔ 105 ∷ and ≔ 1 ∷ high ≔ 1 ∷ asked ≔ 1 ∷ live ≔ 1 ∷ waiting ≔ 1 ∷ service ≔ 1 ∷ levels ≔ 33 ∷ driven ≔ 105 ∷ []) ∷ [])
+
+-- F19: vector words: the vectors alone
+abbrev pub F19 : Row
+F19 =
+    session "F19" 1
+    (after F16 (control 0 18 ∷ control 1 36 gives answer 0 1 36 0 ∷ []))
+    (every 0 (mode ≔ 2 ∷ ready ≔ 1 ∷ out ≔ 165 ∷ input ≔ 85 ∷ lines ≔ 170 ∷ strobe ≔ 0 ∷ vector ≔ 18 ∷ select ≔ 90 ∷ mask ≔ 102 ∷ and ≔ 1 ∷ high ≔ 1 ∷ asked ≔ 1 ∷ live ≔ 1 ∷ waiting ≔ 1 ∷ service ≔ 1 ∷ levels ≔ 165 ∷ driven ≔ 255 ∷ []) ∷
+    every 1 (mode ≔ 3 ∷ ready ≔ 1 ∷ out ≔ 33 ∷ input ≔ 77 ∷ lines ≔ 40 ∷ vector ≔ 36 ∷ select ≔ 150 ∷ mask ≔ 105 ∷ and ≔ 1 ∷ high ≔ 1 ∷ asked ≔ 1 ∷ live ≔ 1 ∷ waiting ≔ 1 ∷ service ≔ 1 ∷ levels ≔ 33 ∷ driven ≔ 105 ∷ []) ∷ [])
+
+-- F20: mode words: A's Ready falls, and B's mode changes and its Ready stays
+abbrev pub F20 : Row
+F20 =
+    session "F20" 1
+    (after F16 (control 0 143 ∷ control 1 79 gives answer 0 1 79 0 ∷ []))
+    (every 0 (mode ≔ 2 ∷ out ≔ 165 ∷ input ≔ 85 ∷ lines ≔ 170 ∷ strobe ≔ 0 ∷ vector ≔ 16 ∷ select ≔ 90 ∷ mask ≔ 102 ∷ and ≔ 1 ∷ high ≔ 1 ∷ asked ≔ 1 ∷ live ≔ 1 ∷ waiting ≔ 1 ∷ service ≔ 1 ∷ levels ≔ 165 ∷ driven ≔ 255 ∷ []) ∷
+    every 1 (ready ≔ 1 ∷ out ≔ 33 ∷ input ≔ 77 ∷ lines ≔ 40 ∷ vector ≔ 34 ∷ select ≔ 150 ∷ mask ≔ 105 ∷ and ≔ 1 ∷ high ≔ 1 ∷ asked ≔ 1 ∷ live ≔ 1 ∷ waiting ≔ 1 ∷ service ≔ 1 ∷ []) ∷ [])
+
+-- F21: a mode 3 word and a select word to B: its select register
+abbrev pub F21 : Row
+F21 =
+    session "F21" 1
+    (after F16 (control 1 207 ∷ control 1 240 gives answer 0 1 240 0 ∷ []))
+    (every 0 (mode ≔ 2 ∷ ready ≔ 1 ∷ out ≔ 165 ∷ input ≔ 85 ∷ lines ≔ 170 ∷ strobe ≔ 0 ∷ vector ≔ 16 ∷ select ≔ 90 ∷ mask ≔ 102 ∷ and ≔ 1 ∷ high ≔ 1 ∷ asked ≔ 1 ∷ live ≔ 1 ∷ waiting ≔ 1 ∷ service ≔ 1 ∷ levels ≔ 165 ∷ driven ≔ 255 ∷ []) ∷
+    every 1 (mode ≔ 3 ∷ ready ≔ 1 ∷ out ≔ 33 ∷ input ≔ 77 ∷ lines ≔ 40 ∷ vector ≔ 34 ∷ select ≔ 240 ∷ mask ≔ 105 ∷ and ≔ 1 ∷ high ≔ 1 ∷ asked ≔ 1 ∷ live ≔ 1 ∷ waiting ≔ 1 ∷ service ≔ 1 ∷ levels ≔ 1 ∷ driven ≔ 15 ∷ []) ∷ [])
+
+-- F22: interrupt control words that say what is so already
+abbrev pub F22 : Row
+F22 =
+    session "F22" 1
+    (after F16 (control 0 231 ∷ control 1 231 gives answer 0 1 231 0 ∷ []))
+    (every 0 (mode ≔ 2 ∷ ready ≔ 1 ∷ out ≔ 165 ∷ input ≔ 85 ∷ lines ≔ 170 ∷ strobe ≔ 0 ∷ vector ≔ 16 ∷ select ≔ 90 ∷ mask ≔ 102 ∷ and ≔ 1 ∷ high ≔ 1 ∷ asked ≔ 1 ∷ live ≔ 1 ∷ waiting ≔ 1 ∷ service ≔ 1 ∷ levels ≔ 165 ∷ driven ≔ 255 ∷ []) ∷
+    every 1 (mode ≔ 3 ∷ ready ≔ 1 ∷ out ≔ 33 ∷ input ≔ 77 ∷ lines ≔ 40 ∷ vector ≔ 34 ∷ select ≔ 150 ∷ mask ≔ 105 ∷ and ≔ 1 ∷ high ≔ 1 ∷ asked ≔ 1 ∷ live ≔ 1 ∷ waiting ≔ 1 ∷ service ≔ 1 ∷ levels ≔ 33 ∷ driven ≔ 105 ∷ []) ∷ [])
+
+-- F23: interrupt control words with bit 4: no longer waiting, not live, mask awaited
+abbrev pub F23 : Row
+F23 =
+    session "F23" 1
+    (after F16 (control 0 247 ∷ control 1 247 gives answer 0 1 247 0 ∷ []))
+    (every 0 (mode ≔ 2 ∷ ready ≔ 1 ∷ out ≔ 165 ∷ input ≔ 85 ∷ lines ≔ 170 ∷ strobe ≔ 0 ∷ vector ≔ 16 ∷ select ≔ 90 ∷ mask ≔ 102 ∷ and ≔ 1 ∷ high ≔ 1 ∷ asked ≔ 1 ∷ service ≔ 1 ∷ awaiting ≔ 2 ∷ levels ≔ 165 ∷ driven ≔ 255 ∷ []) ∷
+    every 1 (mode ≔ 3 ∷ ready ≔ 1 ∷ out ≔ 33 ∷ input ≔ 77 ∷ lines ≔ 40 ∷ vector ≔ 34 ∷ select ≔ 150 ∷ mask ≔ 105 ∷ and ≔ 1 ∷ high ≔ 1 ∷ asked ≔ 1 ∷ service ≔ 1 ∷ awaiting ≔ 2 ∷ levels ≔ 33 ∷ driven ≔ 105 ∷ []) ∷ [])
+
+-- F24: and masks: the masks too
+abbrev pub F24 : Row
+F24 =
+    session "F24" 1
+    (after F16 (control 0 247 ∷ control 0 60 ∷ control 1 247 ∷ control 1 60 gives answer 0 1 60 0 ∷ []))
+    (every 0 (mode ≔ 2 ∷ ready ≔ 1 ∷ out ≔ 165 ∷ input ≔ 85 ∷ lines ≔ 170 ∷ strobe ≔ 0 ∷ vector ≔ 16 ∷ select ≔ 90 ∷ mask ≔ 60 ∷ and ≔ 1 ∷ high ≔ 1 ∷ asked ≔ 1 ∷ service ≔ 1 ∷ levels ≔ 165 ∷ driven ≔ 255 ∷ []) ∷
+    every 1 (mode ≔ 3 ∷ ready ≔ 1 ∷ out ≔ 33 ∷ input ≔ 77 ∷ lines ≔ 40 ∷ vector ≔ 34 ∷ select ≔ 150 ∷ mask ≔ 60 ∷ and ≔ 1 ∷ high ≔ 1 ∷ asked ≔ 1 ∷ service ≔ 1 ∷ levels ≔ 33 ∷ driven ≔ 105 ∷ []) ∷ [])
+
+-- F25: enable words that say what is so already
+abbrev pub F25 : Row
+F25 =
+    session "F25" 1
+    (after F16 (control 0 131 ∷ control 1 131 gives answer 0 1 131 0 ∷ []))
+    (every 0 (mode ≔ 2 ∷ ready ≔ 1 ∷ out ≔ 165 ∷ input ≔ 85 ∷ lines ≔ 170 ∷ strobe ≔ 0 ∷ vector ≔ 16 ∷ select ≔ 90 ∷ mask ≔ 102 ∷ and ≔ 1 ∷ high ≔ 1 ∷ asked ≔ 1 ∷ live ≔ 1 ∷ waiting ≔ 1 ∷ service ≔ 1 ∷ levels ≔ 165 ∷ driven ≔ 255 ∷ []) ∷
+    every 1 (mode ≔ 3 ∷ ready ≔ 1 ∷ out ≔ 33 ∷ input ≔ 77 ∷ lines ≔ 40 ∷ vector ≔ 34 ∷ select ≔ 150 ∷ mask ≔ 105 ∷ and ≔ 1 ∷ high ≔ 1 ∷ asked ≔ 1 ∷ live ≔ 1 ∷ waiting ≔ 1 ∷ service ≔ 1 ∷ levels ≔ 33 ∷ driven ≔ 105 ∷ []) ∷ [])
+
+-- F26: writes: the output registers
+abbrev pub F26 : Row
+F26 =
+    session "F26" 1
+    (after F16 (write 0 66 ∷ write 1 66 gives answer 0 1 66 0 ∷ []))
+    (every 0 (mode ≔ 2 ∷ ready ≔ 1 ∷ out ≔ 66 ∷ input ≔ 85 ∷ lines ≔ 170 ∷ strobe ≔ 0 ∷ vector ≔ 16 ∷ select ≔ 90 ∷ mask ≔ 102 ∷ and ≔ 1 ∷ high ≔ 1 ∷ asked ≔ 1 ∷ live ≔ 1 ∷ waiting ≔ 1 ∷ service ≔ 1 ∷ levels ≔ 66 ∷ driven ≔ 255 ∷ []) ∷
+    every 1 (mode ≔ 3 ∷ ready ≔ 1 ∷ out ≔ 66 ∷ input ≔ 77 ∷ lines ≔ 40 ∷ vector ≔ 34 ∷ select ≔ 150 ∷ mask ≔ 105 ∷ and ≔ 1 ∷ high ≔ 1 ∷ asked ≔ 1 ∷ live ≔ 1 ∷ waiting ≔ 1 ∷ service ≔ 1 ∷ levels ≔ 64 ∷ driven ≔ 105 ∷ []) ∷ [])
+
+-- F27: reads: nothing, since both Readys are high
+abbrev pub F27 : Row
+F27 =
+    session "F27" 1
+    (after F16 (read 0 ∷ read 1 gives answer 1 1 33 0 ∷ []))
+    (every 0 (mode ≔ 2 ∷ ready ≔ 1 ∷ out ≔ 165 ∷ input ≔ 85 ∷ lines ≔ 170 ∷ strobe ≔ 0 ∷ vector ≔ 16 ∷ select ≔ 90 ∷ mask ≔ 102 ∷ and ≔ 1 ∷ high ≔ 1 ∷ asked ≔ 1 ∷ live ≔ 1 ∷ waiting ≔ 1 ∷ service ≔ 1 ∷ levels ≔ 165 ∷ driven ≔ 255 ∷ []) ∷
+    every 1 (mode ≔ 3 ∷ ready ≔ 1 ∷ out ≔ 33 ∷ input ≔ 77 ∷ lines ≔ 40 ∷ vector ≔ 34 ∷ select ≔ 150 ∷ mask ≔ 105 ∷ and ≔ 1 ∷ high ≔ 1 ∷ asked ≔ 1 ∷ live ≔ 1 ∷ waiting ≔ 1 ∷ service ≔ 1 ∷ levels ≔ 33 ∷ driven ≔ 105 ∷ []) ∷ [])
+
+-- F28: A's strobe rises and B's falls: A's Ready falls, A drives no more, A's register follows A's lines
+abbrev pub F28 : Row
+F28 =
+    session "F28" 1
+    (after F16 (strobe-to 0 1 ∷ strobe-to 1 0 gives answer 0 1 0 0 ∷ []))
+    (every 0 (mode ≔ 2 ∷ out ≔ 165 ∷ input ≔ 170 ∷ lines ≔ 170 ∷ vector ≔ 16 ∷ select ≔ 90 ∷ mask ≔ 102 ∷ and ≔ 1 ∷ high ≔ 1 ∷ asked ≔ 1 ∷ live ≔ 1 ∷ waiting ≔ 1 ∷ service ≔ 1 ∷ []) ∷
+    every 1 (mode ≔ 3 ∷ ready ≔ 1 ∷ out ≔ 33 ∷ input ≔ 77 ∷ lines ≔ 40 ∷ strobe ≔ 0 ∷ vector ≔ 34 ∷ select ≔ 150 ∷ mask ≔ 105 ∷ and ≔ 1 ∷ high ≔ 1 ∷ asked ≔ 1 ∷ live ≔ 1 ∷ waiting ≔ 1 ∷ service ≔ 1 ∷ levels ≔ 33 ∷ driven ≔ 105 ∷ []) ∷ [])
+
+-- F29: outside levels: the levels
+abbrev pub F29 : Row
+F29 =
+    session "F29" 1
+    (after F16 (lines-to 0 15 ∷ lines-to 1 15 gives answer 0 1 15 0 ∷ []))
+    (every 0 (mode ≔ 2 ∷ ready ≔ 1 ∷ out ≔ 165 ∷ input ≔ 85 ∷ lines ≔ 15 ∷ strobe ≔ 0 ∷ vector ≔ 16 ∷ select ≔ 90 ∷ mask ≔ 102 ∷ and ≔ 1 ∷ high ≔ 1 ∷ asked ≔ 1 ∷ live ≔ 1 ∷ waiting ≔ 1 ∷ service ≔ 1 ∷ levels ≔ 165 ∷ driven ≔ 255 ∷ []) ∷
+    every 1 (mode ≔ 3 ∷ ready ≔ 1 ∷ out ≔ 33 ∷ input ≔ 77 ∷ lines ≔ 15 ∷ vector ≔ 34 ∷ select ≔ 150 ∷ mask ≔ 105 ∷ and ≔ 1 ∷ high ≔ 1 ∷ asked ≔ 1 ∷ live ≔ 1 ∷ waiting ≔ 1 ∷ service ≔ 1 ∷ levels ≔ 33 ∷ driven ≔ 105 ∷ []) ∷ [])
+
+-- F30: A leaves mode 2: both Readys fall, and A's register follows
+abbrev pub F30 : Row
+F30 =
+    session "F30" 1
+    (after F16 (control 0 79 gives answer 0 0 79 0 ∷ []))
+    (every 0 (out ≔ 165 ∷ input ≔ 170 ∷ lines ≔ 170 ∷ strobe ≔ 0 ∷ vector ≔ 16 ∷ select ≔ 90 ∷ mask ≔ 102 ∷ and ≔ 1 ∷ high ≔ 1 ∷ asked ≔ 1 ∷ live ≔ 1 ∷ waiting ≔ 1 ∷ service ≔ 1 ∷ []) ∷
+    every 1 (mode ≔ 3 ∷ out ≔ 33 ∷ input ≔ 77 ∷ lines ≔ 40 ∷ vector ≔ 34 ∷ select ≔ 150 ∷ mask ≔ 105 ∷ and ≔ 1 ∷ high ≔ 1 ∷ asked ≔ 1 ∷ live ≔ 1 ∷ waiting ≔ 1 ∷ service ≔ 1 ∷ levels ≔ 33 ∷ driven ≔ 105 ∷ []) ∷ [])
+
+-- F31: a reset
+abbrev pub F31 : Row
+F31 =
+    session "F31" 1
+    (after F16 (reset gives answer 0 0 0 0 ∷ []))
+    (every 0 (input ≔ 170 ∷ lines ≔ 170 ∷ strobe ≔ 0 ∷ vector ≔ 16 ∷ select ≔ 90 ∷ and ≔ 1 ∷ high ≔ 1 ∷ []) ∷
+    every 1 (input ≔ 77 ∷ lines ≔ 40 ∷ vector ≔ 34 ∷ select ≔ 150 ∷ and ≔ 1 ∷ high ≔ 1 ∷ []) ∷ [])
 
 -- A1: A in mode 2, its strobe low: a read still gives the input register
 abbrev pub A1 : Row
@@ -1336,8 +1469,8 @@ S3·2 =
 abbrev pub S4 : Row
 S4 =
     session "S4" 1
-    (strobe-to 0 0 ∷ strobe-to 0 1 ∷ control 0 7 ∷ [])
-    (some 0 (waiting ≔ 1 ∷ []) ∷ [])
+    (control 0 131 ∷ strobe-to 0 0 ∷ strobe-to 0 1 ∷ control 0 7 ∷ [])
+    (some 0 (waiting ≔ 1 ∷ asked ≔ 0 ∷ []) ∷ [])
 
 -- S5: outside levels do not forget an open ED
 abbrev pub S5 : Row
@@ -1546,16 +1679,58 @@ S25 =
     (control 0 207 ∷ control 0 255 ∷ control 0 55 ∷ control 0 0 ∷ strobe-to 0 0 ∷ lines-to 0 1 ∷ [])
     (some 0 (waiting ≔ 1 ∷ []) ∷ [])
 
+-- S26: no control word forgets an open ED: vector, mode, select, interrupt control with and without a mask
+abbrev pub S26 : Row
+S26 =
+    session "S26" 1
+    (control 0 131 ∷ fetch 0x00 ∷ strobe-to 0 0 ∷ strobe-to 0 1 ∷ acknowledge ∷ fetch 0xED ∷ control 1 2 ∷ control 1 207 ∷
+    control 1 255 ∷ control 1 7 ∷ control 1 23 ∷ control 1 255 ∷ fetch 0x4D ∷ [])
+    (some 0 (service ≔ 0 ∷ []) ∷ [])
+
+-- S27: ED that is written, read or on the lines is not fetched and opens nothing; nor does a 4D that is written close
+abbrev pub S27·1 : Row
+S27·1 =
+    session "S27.1" 1
+    (control 0 131 ∷ fetch 0x00 ∷ strobe-to 0 0 ∷ strobe-to 0 1 ∷ acknowledge ∷ control 1 207 ∷ control 1 237 ∷ write 1 237 ∷
+    lines-to 1 237 ∷ read 1 gives answer 1 1 237 0 ∷ fetch 0x4D ∷ [])
+    (some 0 (service ≔ 1 ∷ []) ∷ [])
+
+abbrev pub S27·2 : Row
+S27·2 =
+    session "S27.2" 1
+    (control 0 131 ∷ fetch 0x00 ∷ strobe-to 0 0 ∷ strobe-to 0 1 ∷ acknowledge ∷ fetch 0xED ∷ write 1 77 ∷ [])
+    (some 0 (service ≔ 1 ∷ []) ∷ [])
+
+abbrev pub S27·3 : Row
+S27·3 =
+    session "S27.3" 1
+    (control 0 131 ∷ fetch 0x00 ∷ strobe-to 0 0 ∷ strobe-to 0 1 ∷ acknowledge ∷ fetch 0xED ∷ write 1 77 ∷ fetch 0x4D ∷ [])
+    (some 0 (service ≔ 0 ∷ []) ∷ [])
+
+-- S28: an awaited word is awaited whatever comes but a control byte
+abbrev pub S28·1 : Row
+S28·1 =
+    session "S28.1" 1
+    (control 0 23 ∷ write 0 1 ∷ read 0 ∷ strobe-to 0 0 ∷ strobe-to 0 1 ∷ lines-to 0 3 ∷ fetch 0x00 ∷ acknowledge ∷ [])
+    (some 0 (awaiting ≔ 2 ∷ []) ∷ [])
+
+abbrev pub S28·2 : Row
+S28·2 =
+    session "S28.2" 1
+    (control 0 207 ∷ write 0 1 ∷ read 0 ∷ strobe-to 0 0 ∷ strobe-to 0 1 ∷ lines-to 0 3 ∷ fetch 0x00 ∷ acknowledge ∷ [])
+    (some 0 (awaiting ≔ 1 ∷ []) ∷ [])
+
 abbrev pub rows : List Row
 rows =
     P1 ∷ P2 ∷ P3 ∷ P4 ∷ P5 ∷ P6 ∷ P7 ∷ P8 ∷ P9 ∷ P10 ∷ P11 ∷ P12 ∷ L1 ∷ E1 ∷ E2 ∷ E3 ∷ E4 ∷ W1 ∷ W2 ∷ W3 ∷ M1 ∷ M2 ∷ M3 ∷ M4 ∷ M5 ∷ M6 ∷
     M7 ∷ M8 ∷ R1 ∷ R2 ∷ R3 ∷ R4 ∷ R5 ∷ R6 ∷ R7 ∷ R8 ∷ R9 ∷ R10 ∷ R11 ∷ R12 ∷ R13 ∷ R14 ∷ R15 ∷ F1 ∷ F2 ∷ F3 ∷ F4 ∷ F5 ∷ F6 ∷ F7 ∷ F8 ∷
-    F9 ∷ F10 ∷ F11 ∷ F12 ∷ F13 ∷ F14 ∷ F15 ∷ A1 ∷ A2·1 ∷ A2·2 ∷ A3 ∷ A4 ∷ A5 ∷ A6 ∷ A7 ∷ A8 ∷ A9·1 ∷ A9·2 ∷ A10 ∷ A11 ∷ A12 ∷ A13·1 ∷
-    A13·2 ∷ A14·1 ∷ A14·2 ∷ A14·3 ∷ A15·1 ∷ A15·2 ∷ A16 ∷ A18·1 ∷ A18·2 ∷ B1·1 ∷ B1·2 ∷ B2·1 ∷ B2·2 ∷ B3·1 ∷ B3·2 ∷ B4·1 ∷ B4·2 ∷ B4·3 ∷
-    B5·1 ∷ B5·2 ∷ B5·3 ∷ B6·1 ∷ B6·2 ∷ B7·1 ∷ B7·2 ∷ B7·3 ∷ B8 ∷ B9·1 ∷ B9·2 ∷ B10·1 ∷ B10·2 ∷ B11 ∷ B12·1 ∷ B12·2 ∷ B12·3 ∷ B13 ∷ B14·1
-    ∷ B14·2 ∷ B15·1 ∷ B15·2 ∷ B15·3 ∷ B15·4 ∷ B15·5 ∷ B16·1 ∷ B16·2 ∷ B17·1 ∷ B17·2 ∷ B17·3 ∷ B18 ∷ B19 ∷ B20·1 ∷ B20·2 ∷ B21 ∷ B22·1 ∷
-    B22·2 ∷ B22·3 ∷ B22·4 ∷ B23·1 ∷ B23·2 ∷ B24·1 ∷ B24·2 ∷ B24·3 ∷ B25 ∷ B26 ∷ B27·1 ∷ B27·2 ∷ B27·3 ∷ B27·4 ∷ B28·1 ∷ B28·2 ∷ B29·1 ∷
-    B29·2 ∷ C1·1 ∷ C1·2 ∷ C2 ∷ C3 ∷ C4·1 ∷ C4·2 ∷ C4·3 ∷ C5·1 ∷ C5·2 ∷ C5·3 ∷ C6·1 ∷ C6·2 ∷ C7·1 ∷ C7·2 ∷ C8·1 ∷ C8·2 ∷ C8·3 ∷ C8·4 ∷
-    C11·1 ∷ C11·2 ∷ D6·1 ∷ D6·2 ∷ D7 ∷ D8 ∷ D9 ∷ S1·1 ∷ S1·2 ∷ S2 ∷ S3·1 ∷ S3·2 ∷ S4 ∷ S5 ∷ S6 ∷ S7·1 ∷ S7·2 ∷ S7·3 ∷ S7·4 ∷ S8·1 ∷ S8·2
-    ∷ S9 ∷ S10·1 ∷ S10·2 ∷ S11·1 ∷ S11·2 ∷ S11·3 ∷ S12 ∷ S13 ∷ S14 ∷ S15 ∷ S16 ∷ S17 ∷ S18 ∷ S19 ∷ S20 ∷ S21·1 ∷ S21·2 ∷ S21·3 ∷ S22 ∷
-    S23 ∷ S24·1 ∷ S24·2 ∷ S25 ∷ []
+    F9 ∷ F10 ∷ F11 ∷ F12 ∷ F13 ∷ F14 ∷ F15 ∷ F16 ∷ F17 ∷ F18 ∷ F19 ∷ F20 ∷ F21 ∷ F22 ∷ F23 ∷ F24 ∷ F25 ∷ F26 ∷ F27 ∷ F28 ∷ F29 ∷ F30 ∷
+    F31 ∷ A1 ∷ A2·1 ∷ A2·2 ∷ A3 ∷ A4 ∷ A5 ∷ A6 ∷ A7 ∷ A8 ∷ A9·1 ∷ A9·2 ∷ A10 ∷ A11 ∷ A12 ∷ A13·1 ∷ A13·2 ∷ A14·1 ∷ A14·2 ∷ A14·3 ∷ A15·1
+    ∷ A15·2 ∷ A16 ∷ A18·1 ∷ A18·2 ∷ B1·1 ∷ B1·2 ∷ B2·1 ∷ B2·2 ∷ B3·1 ∷ B3·2 ∷ B4·1 ∷ B4·2 ∷ B4·3 ∷ B5·1 ∷ B5·2 ∷ B5·3 ∷ B6·1 ∷ B6·2 ∷
+    B7·1 ∷ B7·2 ∷ B7·3 ∷ B8 ∷ B9·1 ∷ B9·2 ∷ B10·1 ∷ B10·2 ∷ B11 ∷ B12·1 ∷ B12·2 ∷ B12·3 ∷ B13 ∷ B14·1 ∷ B14·2 ∷ B15·1 ∷ B15·2 ∷ B15·3 ∷
+    B15·4 ∷ B15·5 ∷ B16·1 ∷ B16·2 ∷ B17·1 ∷ B17·2 ∷ B17·3 ∷ B18 ∷ B19 ∷ B20·1 ∷ B20·2 ∷ B21 ∷ B22·1 ∷ B22·2 ∷ B22·3 ∷ B22·4 ∷ B23·1 ∷
+    B23·2 ∷ B24·1 ∷ B24·2 ∷ B24·3 ∷ B25 ∷ B26 ∷ B27·1 ∷ B27·2 ∷ B27·3 ∷ B27·4 ∷ B28·1 ∷ B28·2 ∷ B29·1 ∷ B29·2 ∷ C1·1 ∷ C1·2 ∷ C2 ∷ C3 ∷
+    C4·1 ∷ C4·2 ∷ C4·3 ∷ C5·1 ∷ C5·2 ∷ C5·3 ∷ C6·1 ∷ C6·2 ∷ C7·1 ∷ C7·2 ∷ C8·1 ∷ C8·2 ∷ C8·3 ∷ C8·4 ∷ C11·1 ∷ C11·2 ∷ D6·1 ∷ D6·2 ∷ D7 ∷
+    D8 ∷ D9 ∷ S1·1 ∷ S1·2 ∷ S2 ∷ S3·1 ∷ S3·2 ∷ S4 ∷ S5 ∷ S6 ∷ S7·1 ∷ S7·2 ∷ S7·3 ∷ S7·4 ∷ S8·1 ∷ S8·2 ∷ S9 ∷ S10·1 ∷ S10·2 ∷ S11·1 ∷
+    S11·2 ∷ S11·3 ∷ S12 ∷ S13 ∷ S14 ∷ S15 ∷ S16 ∷ S17 ∷ S18 ∷ S19 ∷ S20 ∷ S21·1 ∷ S21·2 ∷ S21·3 ∷ S22 ∷ S23 ∷ S24·1 ∷ S24·2 ∷ S25 ∷ S26
+    ∷ S27·1 ∷ S27·2 ∷ S27·3 ∷ S28·1 ∷ S28·2 ∷ []
