@@ -1720,6 +1720,85 @@ S28·2 =
     (control 0 207 ∷ write 0 1 ∷ read 0 ∷ strobe-to 0 0 ∷ strobe-to 0 1 ∷ lines-to 0 3 ∷ fetch 0x00 ∷ acknowledge ∷ [])
     (some 0 (awaiting ≔ 1 ∷ []) ∷ [])
 
+-- S29: the fourth byte counts in every kind; R3 has it in a fetch, C7.1 in a control write
+abbrev pub S29 : Row
+S29 =
+    session "S29" 1
+    (bytes (0 ∷ 0 ∷ 0 ∷ 1 ∷ []) gives answer 18 0 0 0 ∷ bytes (2 ∷ 0 ∷ 0 ∷ 1 ∷ []) gives answer 18 0 0 0 ∷
+    bytes (4 ∷ 0 ∷ 1 ∷ 1 ∷ []) gives answer 18 0 1 0 ∷ bytes (5 ∷ 0 ∷ 0 ∷ 1 ∷ []) gives answer 18 0 0 0 ∷
+    bytes (6 ∷ 0 ∷ 0 ∷ 1 ∷ []) gives answer 18 0 0 0 ∷ bytes (7 ∷ 0 ∷ 1 ∷ 1 ∷ []) gives answer 18 0 1 0 ∷ [])
+    (every 0 [] ∷ [])
+
+-- S30: a place not on the board is refused in every kind that has a place, whatever the control word
+abbrev pub S30 : Row
+S30 =
+    session "S30" 1
+    (control 2 32 gives answer 17 2 32 0 ∷ control 2 129 gives answer 17 2 129 0 ∷ control 2 143 gives answer 17 2 143 0 ∷
+    write 2 1 gives answer 17 2 1 0 ∷ read 2 gives answer 17 2 0 0 ∷ strobe-to 2 0 gives answer 17 2 0 0 ∷
+    lines-to 2 1 gives answer 17 2 1 0 ∷ [])
+    (every 2 (code ≔ 17 ∷ []) ∷ [])
+
+-- S31: sizes far outside 1 to 4
+abbrev pub S31·1 : Row
+S31·1 =
+    refused "S31.1" 256
+    (reset gives answer 35 0 0 0 ∷ [])
+    ([])
+
+abbrev pub S31·2 : Row
+S31·2 =
+    refused "S31.2" 257
+    (reset gives answer 35 0 0 0 ∷ [])
+    ([])
+
+-- S32: an interrupt control word that disables takes asked and live at once
+abbrev pub S32 : Row
+S32 =
+    session "S32" 1
+    (control 0 131 ∷ fetch 0x00 ∷ control 0 7 ∷ [])
+    (some 0 (asked ≔ 0 ∷ live ≔ 0 ∷ []) ∷ [])
+
+-- S33: a fetch makes live also a port under service
+abbrev pub S33 : Row
+S33 =
+    session "S33" 1
+    (control 0 131 ∷ fetch 0x00 ∷ strobe-to 0 0 ∷ strobe-to 0 1 ∷ acknowledge ∷ control 0 3 ∷ control 0 131 ∷ fetch 0x00 ∷ [])
+    (some 0 (live ≔ 1 ∷ service ≔ 1 ∷ []) ∷ [])
+
+-- S34: a write raises Ready of a mode 0 B
+abbrev pub S34 : Row
+S34 =
+    session "S34" 1
+    (control 1 15 ∷ write 1 1 ∷ [])
+    (some 1 (ready ≔ 1 ∷ []) ∷ [])
+
+-- S35: AND over Low
+abbrev pub S35·1 : Row
+S35·1 =
+    session "S35.1" 1
+    (lines-to 0 3 ∷ control 0 207 ∷ control 0 255 ∷ control 0 87 ∷ control 0 252 ∷ lines-to 0 1 ∷ [])
+    (some 0 (matched ≔ 0 ∷ waiting ≔ 0 ∷ []) ∷ [])
+
+abbrev pub S35·2 : Row
+S35·2 =
+    session "S35.2" 1
+    (lines-to 0 3 ∷ control 0 207 ∷ control 0 255 ∷ control 0 87 ∷ control 0 252 ∷ lines-to 0 0 ∷ [])
+    (some 0 (matched ≔ 1 ∷ waiting ≔ 1 ∷ []) ∷ [])
+
+-- S36: the vector is the answering port's own
+abbrev pub S36 : Row
+S36 =
+    session "S36" 2
+    (control 0 16 ∷ control 2 18 ∷ control 2 131 ∷ fetch 0x00 ∷ strobe-to 2 0 ∷ strobe-to 2 1 ∷ acknowledge gives answer 2 2 18 0 ∷ [])
+    ([])
+
+-- S37: the last place of the largest board is named by 8
+abbrev pub S37 : Row
+S37 =
+    session "S37" 4
+    (control 7 131 ∷ fetch 0x00 ∷ strobe-to 7 0 ∷ strobe-to 7 1 gives answer 0 7 1 8 ∷ [])
+    ([])
+
 abbrev pub rows : List Row
 rows =
     P1 ∷ P2 ∷ P3 ∷ P4 ∷ P5 ∷ P6 ∷ P7 ∷ P8 ∷ P9 ∷ P10 ∷ P11 ∷ P12 ∷ L1 ∷ E1 ∷ E2 ∷ E3 ∷ E4 ∷ W1 ∷ W2 ∷ W3 ∷ M1 ∷ M2 ∷ M3 ∷ M4 ∷ M5 ∷ M6 ∷
@@ -1733,4 +1812,4 @@ rows =
     C4·1 ∷ C4·2 ∷ C4·3 ∷ C5·1 ∷ C5·2 ∷ C5·3 ∷ C6·1 ∷ C6·2 ∷ C7·1 ∷ C7·2 ∷ C8·1 ∷ C8·2 ∷ C8·3 ∷ C8·4 ∷ C11·1 ∷ C11·2 ∷ D6·1 ∷ D6·2 ∷ D7 ∷
     D8 ∷ D9 ∷ S1·1 ∷ S1·2 ∷ S2 ∷ S3·1 ∷ S3·2 ∷ S4 ∷ S5 ∷ S6 ∷ S7·1 ∷ S7·2 ∷ S7·3 ∷ S7·4 ∷ S8·1 ∷ S8·2 ∷ S9 ∷ S10·1 ∷ S10·2 ∷ S11·1 ∷
     S11·2 ∷ S11·3 ∷ S12 ∷ S13 ∷ S14 ∷ S15 ∷ S16 ∷ S17 ∷ S18 ∷ S19 ∷ S20 ∷ S21·1 ∷ S21·2 ∷ S21·3 ∷ S22 ∷ S23 ∷ S24·1 ∷ S24·2 ∷ S25 ∷ S26
-    ∷ S27·1 ∷ S27·2 ∷ S27·3 ∷ S28·1 ∷ S28·2 ∷ []
+    ∷ S27·1 ∷ S27·2 ∷ S27·3 ∷ S28·1 ∷ S28·2 ∷ S29 ∷ S30 ∷ S31·1 ∷ S31·2 ∷ S32 ∷ S33 ∷ S34 ∷ S35·1 ∷ S35·2 ∷ S36 ∷ S37 ∷ []
