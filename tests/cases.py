@@ -130,28 +130,29 @@ def cases():
 
 
 class Output:
-    """What a program printed: the answers, and after the last event the numbers of places by their columns."""
+    """What a program printed: for each event its answer, and after it the numbers of places by their columns."""
 
     def __init__(self, lines, columns, places, events):
         if len(lines) != events * (1 + places):
             raise Unreadable(f"{len(lines)} lines for {events} events")
         self.columns = columns
         self.answers = []
-        self.places = {}
+        self.states = []
         for at in range(events):
             head = at * (1 + places)
             number, *rest = numbers(lines[head], 5)
             if number != at + 1:
                 raise Unreadable(f"line `{lines[head]}` should have number {at + 1}")
             self.answers.append(rest)
+            self.states.append([])
             for place in range(places):
                 state = dict(zip(columns, numbers(lines[head + 1 + place], len(columns))))
                 if state["place"] != place:
                     raise Unreadable(f"place {state['place']} stands where {place} should")
-                self.places[place] = state
+                self.states[-1].append(state)
 
     def shows(self, place, name):
-        return place in self.places and name in self.columns
+        return self.states and place < len(self.states[-1]) and name in self.columns
 
     def misses(self, case):
         """Every wanted thing that this output can show and that did not come out."""
@@ -162,8 +163,8 @@ class Output:
         for place, named in case.wholes:
             wanted += [(place, name, named.get(name, FRESH.get(name, 0))) for name in FIELDS]
         for place, name, number in wanted:
-            if self.shows(place, name) and self.places[place][name] != number:
-                yield f"wanted {place}.{name}={number}, got {self.places[place][name]}"
+            if self.shows(place, name) and self.states[-1][place][name] != number:
+                yield f"wanted {place}.{name}={number}, got {self.states[-1][place][name]}"
 
 
 def numbers(line, count):
@@ -194,11 +195,16 @@ def panel_reaches(case):
     return case.code == MADE and all(len(event) == 4 for event in case.events)
 
 
-def through_panel(program, case):
-    first, *lines = output([program, str(case.size)], b"".join(bytes(event) for event in case.events))
+def panel_output(program, size, records):
+    """What the panel prints for these records."""
+    first, *lines = output([program, str(size)], records)
     if first != "columns " + " ".join(COLUMNS):
         raise Unreadable("the first line does not name the columns")
-    yield from Output(lines, COLUMNS, 2 * case.size, len(case.events)).misses(case)
+    return Output(lines, COLUMNS, 2 * size, len(records) // 4)
+
+
+def through_panel(program, case):
+    yield from panel_output(program, case.size, b"".join(bytes(event) for event in case.events)).misses(case)
 
 
 def main():

@@ -105,7 +105,7 @@ def files(words):
         else:
             event, _, stamp = word.partition("@")
             stamp, _, count = stamp.partition("*")
-            events += cases.record(event) * int(count or 1)
+            events += bytes(cases.event_bytes(event)) * int(count or 1)
             stamps += int(stamp).to_bytes(2, "little") * int(count or 1) if stamp else b""
     return events, stamps, before
 
@@ -120,10 +120,10 @@ def check_case(export, size, room, events, stamps, before, code, text):
 
 def values_after(panel, recording):
     """The nine values after each record: whether a place asks, and Ready of each place that is on the board."""
-    records = [recording.events[at:at + 4] for at in range(0, len(recording.events), 4)]
-    for answer, states in cases.panel(panel, recording.size, records):
-        ready = [states[place]["ready"] if place in states else 0 for place in range(8)]
-        yield [int(answer.split(",")[3] != "0")] + ready
+    shown = cases.panel_output(panel, recording.size, recording.events)
+    for (_, _, _, request), states in zip(shown.answers, shown.states):
+        ready = [state["ready"] for state in states]
+        yield [int(request != 0)] + ready + [0] * (8 - len(ready))
 
 
 def wanted_text(panel, recording):
