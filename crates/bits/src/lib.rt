@@ -1,5 +1,7 @@
 // The eight lines of a port as the bits of a byte: do the watched lines match, what does a read show, which levels are driven.
 // Document 01, "Data, handshake, bits". Whole bytes are worked on here; specs/ says the same line by line.
+#![tactic(auto)]
+
 ghost use Rattle.std.specs.Prelude.{◌≡◌};
 ghost use Rattle.bits.specs.Lines.{active_of, match_of, mixed_of, levels_of};
 

@@ -1,6 +1,8 @@
 // The board: one to four chips on one chain, and the decoder that listens to opcode fetches. Document 01, "Records": fresh board,
 // soundness, driven lines. A step has two halves, so that a run can keep the chips in a local array and move one of them: `plans`
 // reads the event's four bytes and says which chips it concerns, `steps` changes them. Their types and definitions are here.
+#![tactic(auto)]
+
 ghost use Rattle.std.specs.Prelude.{◌≡◌, length};
 ghost use Rattle.chain.specs.Chain.{most};
 ghost use Rattle.board.specs.Board.{fresh_of, lines_of};
@@ -10,7 +12,7 @@ use chain::{Decoder, MOST, Marks};
 use chip::Chip;
 
 #[repr(C)]
-#[derive(Drop)]
+#[derive(Clone, Copy)]
 pub struct Board {
     pub size: u8,
     pub chips: [Chip; MOST],
@@ -19,7 +21,7 @@ pub struct Board {
 
 // `request` tells who asks for an interrupt after the event: the nearest asking place + 1, or 0 for nobody.
 #[repr(C)]
-#[derive(Drop)]
+#[derive(Clone, Copy)]
 pub struct Answer {
     pub code: u8,
     pub place: u8,
@@ -27,21 +29,21 @@ pub struct Answer {
     pub request: u8,
 }
 
-#[derive(Drop)]
+#[derive(Clone, Copy)]
 pub struct Stepped {
     pub board: Board,
     pub answer: Answer,
 }
 
 // A fresh board, and 0 or 33.
-#[derive(Drop)]
+#[derive(Clone, Copy)]
 pub struct Made {
     pub code: u8,
     pub board: Board,
 }
 
 // The lines driven at a place, and 0 or a refusal.
-#[derive(Drop)]
+#[derive(Clone, Copy)]
 pub struct Lines {
     pub code: u8,
     pub levels: u8,
@@ -49,7 +51,7 @@ pub struct Lines {
 }
 
 // What one look at every chip tells: whether the board is sound, whether a fetch would make a port live, and the chain's marks.
-#[derive(Drop)]
+#[derive(Clone, Copy)]
 pub struct Look {
     pub sound: bool,
     pub due: bool,
@@ -58,7 +60,7 @@ pub struct Look {
 
 // What an event asks of the board. `whole`: of every chip; `one`: of the chip `chip`, at its second port if `second`. Neither: the
 // answer is known and only the decoder changes.
-#[derive(Drop)]
+#[derive(Clone, Copy)]
 pub struct Plan {
     pub whole: bool,
     pub one: bool,
@@ -74,7 +76,7 @@ pub struct Plan {
 }
 
 // One chip after an event, with the marks of all, the answer, and whether a fetch would make one of its ports live.
-#[derive(Drop)]
+#[derive(Clone, Copy)]
 pub struct Changed {
     pub chip: Chip,
     pub marks: Marks,
@@ -83,7 +85,7 @@ pub struct Changed {
 }
 
 // Every chip after an event, with their marks and the answer.
-#[derive(Drop)]
+#[derive(Clone, Copy)]
 pub struct Swept {
     pub chips: [Chip; MOST],
     pub marks: Marks,

@@ -1,5 +1,7 @@
 // Writers into lent buffers. Each contract states the answer and every byte of the buffer at exit, with room and without: where there is
 // less room than a writer asks for, it writes nothing.
+#![tactic(auto)]
+
 ghost use Rattle.std.specs.Prelude.{◌≡◌, [], ◌∷◌, ◌+◌, ◌*◌, ◌≤◌, length};
 ghost use Rattle.bits.specs.Bits.{if◌then◌else◌, ◌is◌};
 ghost use Rattle.buffers.specs.Splice.{splice, has_room, if_room, Wrote};

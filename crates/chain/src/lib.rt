@@ -1,5 +1,7 @@
 // The interrupt chain over the chips of a board, and the opcode decoder that finds RETI. Document 01, "Chain and RETI". Nothing here
 // knows of modes: a port is live, waits, is under service.
+#![tactic(auto)]
+
 ghost use Rattle.std.specs.Prelude.{◌≡◌};
 ghost use Rattle.bits.specs.Bits.{if◌then◌else◌};
 ghost use Rattle.chain.specs.Decode.{next_of, reti_of};
@@ -15,7 +17,7 @@ pub type Marks = [u8; MOST];
 
 // The decoder's small memory: 0 nothing, 1 an ED was fetched last and opened.
 #[repr(C)]
-#[derive(Drop)]
+#[derive(Clone, Copy)]
 pub struct Decoder {
     pub prefix: u8,
 }

@@ -1,5 +1,7 @@
 // One PIO: its two ports, and what couples them. With A in mode 2, B's strobe and Ready serve A's input. Document 01, "Data,
 // handshake, bits": the settling after each event, and what a whole-board event does to one chip. Events at one port are in events.
+#![tactic(auto)]
+
 ghost use Rattle.std.specs.Prelude.{◌≡◌, true, false};
 ghost use Rattle.chip.specs.Chip.{side, port, follows, settle, fetch, serve, release, reset, chip_fresh};
 ghost use Rattle.chip.specs.Sound.{sound_chip};
@@ -7,7 +9,7 @@ ghost use Rattle.chip.specs.Sound.{sound_chip};
 use port::Port;
 
 #[repr(C)]
-#[derive(Drop)]
+#[derive(Clone, Copy)]
 pub struct Chip {
     pub a: Port,
     pub b: Port,

@@ -1,5 +1,7 @@
 // The events of kinds 3 to 7 at one port of a chip: a control byte, data written and read, a strobe level, outside levels; and the
 // settling after each. Document 01, "Control words" and "Data, handshake, bits".
+#![tactic(auto)]
+
 ghost use Rattle.std.specs.Prelude.{◌≡◌};
 ghost use Rattle.chip.specs.Chip.{side};
 ghost use Rattle.events.specs.Events.{obey, changed, write, read, strobe, outside};
@@ -9,7 +11,7 @@ use chip::Chip;
 use words::{Heard, Word};
 
 // A chip after an event at one of its ports, with the answer's code and value.
-#[derive(Drop)]
+#[derive(Clone, Copy)]
 pub struct Acted {
     pub chip: Chip,
     pub code: u8,

@@ -1,5 +1,7 @@
 // The step over a lent board. Document 01, "The board is lent to the step and altered there": the board stays where its caller keeps it;
 // the step takes it apart, calls the functions on values and stores what they give.
+#![tactic(auto)]
+
 ghost use Rattle.std.specs.Prelude.{◌≡◌};
 ghost use Rattle.board.specs.Step.{step_of};
 

@@ -1,5 +1,7 @@
 // Lists the records of standard input for a fresh board of four, a line each: document 01, "Sessions to try". What is written is made in
 // a buffer by `list_records`, whose contract says it byte for byte; the rest reads and writes.
+#![tactic(auto)]
+
 ghost use Rattle.std.specs.Prelude.{◌≡◌, ◌+◌, ◌/◌, ◌%◌, ◌^◌, ◌≤◌, true, length};
 ghost use Rattle.buffers.specs.Splice.{Wrote};
 ghost use Rattle.board.specs.Board.{sound_board};
@@ -10,7 +12,7 @@ use board::Board;
 use libc::{STDIN_FILENO, STDOUT_FILENO};
 
 // Where the listing stands: the board, the number of the next line, and whether there may be more to list.
-#[derive(Drop)]
+#[derive(Clone, Copy)]
 struct Stand {
     board: Board,
     number: u64,
@@ -18,7 +20,7 @@ struct Stand {
 }
 
 // The board after some records, the number of the next line, and where the lines end in the buffer.
-#[derive(Drop)]
+#[derive(Clone, Copy)]
 struct Listed {
     board: Board,
     number: u64,

@@ -1,5 +1,7 @@
 // What the definitions mean, as theorems about them: specs/ says them in document 01's words, proofs/ has the proofs. A function here
 // does nothing; its contract is the statements, so that the check fails where one of them has no proof.
+#![tactic(auto)]
+
 ghost use Rattle.meaning.specs.Sound.{SoundSays};
 ghost use Rattle.meaning.specs.Beyond.{NotRead, NotChanged};
 ghost use Rattle.meaning.specs.Match.{OrMatch, AndMatch};

@@ -1,5 +1,7 @@
 // Shows the service man a fresh board of one to four chips: for every record of standard input the listing's line, and then a line for
 // each place. What is written is made in a buffer by `show_records`, whose contract says it byte for byte; the rest reads and writes.
+#![tactic(auto)]
+
 ghost use Rattle.std.specs.Prelude.{◌≡◌, ◌+◌, ◌/◌, ◌%◌, ◌^◌, ◌≤◌, length, take};
 ghost use Rattle.buffers.specs.Splice.{if_room, Wrote};
 ghost use Rattle.chain.specs.Chain.{flat};
@@ -15,7 +17,7 @@ use libc::{STDERR_FILENO, STDIN_FILENO, STDOUT_FILENO};
 use port::Port;
 
 // Where the panel stands: the board, the number of the next line, and whether there may be more to show.
-#[derive(Drop)]
+#[derive(Clone, Copy)]
 struct Stand {
     board: Board,
     number: u64,
@@ -23,7 +25,7 @@ struct Stand {
 }
 
 // The board after some records, the number of the next line, and where the text ends in the buffer.
-#[derive(Drop)]
+#[derive(Clone, Copy)]
 struct Shown {
     board: Board,
     number: u64,

@@ -1,6 +1,8 @@
 // The board is lent: each function takes a board that stays where its caller keeps it, calls the functions on values and stores what
 // they give. Document 01, "The board is lent to the step and altered there". The functions whose names begin with pio_ are for C and
 // Rust to link; include/pio.h says in words what each answers and refuses, and specs/Calls.antt what it promises.
+#![tactic(auto)]
+
 ghost use Rattle.std.specs.Prelude.{◌≡◌, leb, length};
 ghost use Rattle.records.specs.Records.{bytes_of};
 ghost use Rattle.pio.specs.Lent.{lent_lines, lines_bytes, written};

@@ -1,6 +1,8 @@
 // What an event asks of the board: document 01, "Records", the refusals that need no look at a port, and the first half of a step.
 // `step_reads` reads the event's four bytes on a board that is known to be sound; `step_seen` goes by a look at the board, and
 // `step_looks` looks it over itself. The definitions are the board's.
+#![tactic(auto)]
+
 ghost use Rattle.std.specs.Prelude.{◌≡◌, ◌<◌, length};
 ghost use Rattle.chain.specs.Chain.{most};
 ghost use Rattle.board.specs.Halves.{early_of, idle, single, fetch_at, fetch_plan, acknowledge_plan, accepted_plan, plan_of, seen_plan, first_of};

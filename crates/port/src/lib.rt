@@ -1,10 +1,12 @@
 // One port of a PIO: its registers, and what each data access, strobe edge and line change makes of them. Document 01, "Data,
 // handshake, bits". What a port needs to know of the other port of its chip comes as a flag. Control words are in words; match, settling and soundness in rest.
+#![tactic(auto)]
+
 ghost use Rattle.std.specs.Prelude.{◌≡◌};
 ghost use Rattle.port.specs.Rules.{written, shown_of, accessed, strobed, lines_now, driven_of, levels_now, woken, served, released, cleared, fresh_port};
 
 #[repr(C)]
-#[derive(Drop)]
+#[derive(Clone, Copy)]
 pub struct Port {
     pub mode: u8,
     pub out: u8,

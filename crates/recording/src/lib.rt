@@ -1,4 +1,6 @@
 // The export of a recording for the wave viewer. Document 02, Ask 1: the records one after the other, and what each time shows.
+#![tactic(auto)]
+
 ghost use Rattle.std.specs.Prelude.{◌≡◌, true, ◌+◌, ◌*◌, ◌/◌, ◌%◌, ◌≤◌, length};
 ghost use Rattle.buffers.specs.Splice.{splice, if_room};
 ghost use Rattle.chain.specs.Chain.{most};
@@ -14,7 +16,7 @@ use chain::{Decoder, MOST, Marks};
 use chip::Chip;
 
 // The board after an export, its code, and the length of the text.
-#[derive(Drop)]
+#[derive(Clone, Copy)]
 pub struct Exported {
     pub code: u8,
     pub length: usize,
@@ -45,7 +47,7 @@ fn refusal(sound: bool, events: usize, stamps: usize, text: usize, room: usize) 
 }
 
 // What is kept from record to record beside the board's size: chips and decoder, and what is known of them.
-#[derive(Drop)]
+#[derive(Clone, Copy)]
 struct Stand {
     chips: [Chip; MOST],
     decoder: Decoder,
@@ -55,7 +57,7 @@ struct Stand {
 }
 
 // The board after all the records, and the length of their text.
-#[derive(Drop)]
+#[derive(Clone, Copy)]
 struct Scanned {
     length: usize,
     board: Board,

@@ -1,5 +1,7 @@
 // All the records of a run, on a sound board with room for their answers. The board's size, chips, decoder and marks are kept in
 // locals: an event that concerns one chip changes that chip where it lies, and a fetch that changes nothing touches no chip at all.
+#![tactic(auto)]
+
 ghost use Rattle.std.specs.Prelude.{◌≡◌, true, ◌+◌, ◌*◌, ◌/◌, ◌%◌, ◌≤◌, length};
 ghost use Rattle.buffers.specs.Splice.{splice};
 ghost use Rattle.chain.specs.Chain.{most};

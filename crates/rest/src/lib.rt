@@ -1,5 +1,7 @@
 // One port at rest: whether its lines match, what settling after an event makes of it, and what a sound board asks of it. Document 01,
 // "Data, handshake, bits" and "Sound board". What a port needs to know of the other port of its chip comes as a flag.
+#![tactic(auto)]
+
 ghost use Rattle.std.specs.Prelude.{◌≡◌};
 ghost use Rattle.port.specs.Rules.{match_now, settled};
 ghost use Rattle.port.specs.Sound.{sound_of};

@@ -1,12 +1,14 @@
 // A run over many records. Document 01, "Records": the run's refusals, and what it reports. It looks the board over once; `records`
 // steps the records.
+#![tactic(auto)]
+
 ghost use Rattle.std.specs.Prelude.{◌≡◌, true, ◌+◌, ◌/◌, ◌%◌, ◌≤◌};
 ghost use Rattle.run.specs.Run.{refusal_of, ran_of, buffer_of};
 
 use board::Board;
 
 // The board after a run, its code, and the number of records.
-#[derive(Drop)]
+#[derive(Clone, Copy)]
 pub struct Ran {
     pub code: u8,
     pub records: usize,

@@ -1,5 +1,7 @@
 // One event of kinds 3 to 7 at a chip that is sound, with no more settling than it can need: a run keeps its board sound, so each
 // kind settles only what it can have unsettled. What comes out is the chip's own event, `act_of`.
+#![tactic(auto)]
+
 ghost use Rattle.std.specs.Prelude.{◌≡◌, true, false};
 ghost use Rattle.bits.specs.Bits.{if◌then◌else◌};
 ghost use Rattle.chip.specs.Chip.{side};

@@ -1,5 +1,7 @@
 // What an event changes: document 01, "Records", the second half of a step, at one chip (`step_chip`) or at all (`step_chips`); and
 // the step, which is its two halves. The definitions are the board's.
+#![tactic(auto)]
+
 ghost use Rattle.std.specs.Prelude.{◌≡◌};
 ghost use Rattle.board.specs.Step.{step_of};
 ghost use Rattle.board.specs.Halves.{touched_of, changed_of, sweep_of, freed_of, swept_of};

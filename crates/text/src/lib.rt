@@ -1,5 +1,7 @@
 // The text of the two station programs, `listing` and `panel`: document 01, "Sessions to try". Each writer's contract states its
 // answer and every byte of the buffer at exit, with room and without: where there is less room than a writer asks for, it writes nothing.
+#![tactic(auto)]
+
 ghost use Rattle.std.specs.Prelude.{◌≡◌, ◌+◌, ◌*◌, ◌/◌, ◌≤◌, [], ◌∷◌, ◌++◌, length};
 ghost use Rattle.buffers.specs.Splice.{if_room, Wrote};
 ghost use Rattle.buffers.specs.Rows.{row_of};

@@ -1,5 +1,7 @@
 // Writes a recording as the text that a wave viewer reads: document 02, Ask 1. The text is made in a buffer by `make_text` and a
 // refusal's line by `put_refusal`, whose contracts say them byte for byte; the rest reads and writes.
+#![tactic(auto)]
+
 ghost use Rattle.std.specs.Prelude.{◌≡◌, ◌+◌, ◌-◌, ◌≤◌, ◌<◌, length};
 ghost use Rattle.buffers.specs.Splice.{Wrote};
 ghost use Rattle.wave.specs.Text.{kept_of, next_at, SameBefore, ReadInParts, ByOwnLength, wave_of, buffer_of, refusal_line};
@@ -7,7 +9,7 @@ ghost use Rattle.wave.specs.Text.{kept_of, next_at, SameBefore, ReadInParts, ByO
 use libc::{STDERR_FILENO, STDOUT_FILENO};
 
 // How far a file is read: its length so far as `kept` counts it, whether there may be more, and whether it cannot be read.
-#[derive(Drop)]
+#[derive(Clone, Copy)]
 struct Stand {
     count: usize,
     more: bool,
@@ -15,7 +17,7 @@ struct Stand {
 }
 
 // The code of an export, and the length of its text.
-#[derive(Drop)]
+#[derive(Clone, Copy)]
 struct Wave {
     code: u8,
     length: usize,

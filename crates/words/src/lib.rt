@@ -1,12 +1,14 @@
 // The control words of a port: what a control byte means to it, and what the port does with it. Document 01, "Control words". That
 // the port is B of a chip whose A is in mode 2 comes as a flag.
+#![tactic(auto)]
+
 ghost use Rattle.std.specs.Prelude.{◌≡◌};
 ghost use Rattle.words.specs.Words.{heard_of, code_of, obeyed};
 
 use port::Port;
 
 // A control word of a defined form.
-#[derive(Drop)]
+#[derive(Clone, Copy)]
 pub enum Word {
     Vector(u8),
     Mode(u8),
@@ -22,7 +24,7 @@ pub enum Word {
 }
 
 // What a control byte means to a port: a word, or one of the two refusals.
-#[derive(Drop)]
+#[derive(Clone, Copy)]
 pub enum Heard {
     Said(Word),
     NoForm,
