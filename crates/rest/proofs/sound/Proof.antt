@@ -48,16 +48,16 @@ merits m x v l s f i k w = simp (not_or, not_and, twice) (order (m && not x && v
 awaits : (a b c l z : Bool) → not (not a || (b && not c) || (l && z)) ≡ (a && (not b || c) && not (l && z))
 awaits a b c l z = simp (not_or, not_and, twice)
 
-module _ (onB follows watched m : Bool) (p : Port) (e : m ≡ match_now p) where
+module _ (on_b follows watched m : Bool) (p : Port) (e : m ≡ match_now p) where
   abbrev faults : Bool
   faults =
-      fault (ltb p.mode 4) (onB && (p.mode is 2)) (p.vector % 2 is 0) p.live p.asked follows (p.input is p.lines)
+      fault (ltb p.mode 4) (on_b && (p.mode is 2)) (p.vector % 2 is 0) p.live p.asked follows (p.input is p.lines)
       (beq p.matched (m && watched))
 
-  faultless : not (faults || (not (ltb p.awaiting 3) || ((p.awaiting is 1) && not (p.mode is 3)) || (p.live && (p.awaiting is 2)))) ≡ sound_of onB follows watched p
+  faultless : not (faults || (not (ltb p.awaiting 3) || ((p.awaiting is 1) && not (p.mode is 3)) || (p.live && (p.awaiting is 2)))) ≡ sound_of on_b follows watched p
   faultless =
       rw (← e, ← awaits (ltb p.awaiting 3) (p.awaiting is 1) (p.mode is 3) p.live (p.awaiting is 2))
-      (merits (ltb p.mode 4) (onB && (p.mode is 2)) (p.vector % 2 is 0) p.live p.asked follows (p.input is p.lines)
+      (merits (ltb p.mode 4) (on_b && (p.mode is 2)) (p.vector % 2 is 0) p.live p.asked follows (p.input is p.lines)
       (beq p.matched (m && watched))
       (not (ltb p.awaiting 3) || ((p.awaiting is 1) && not (p.mode is 3)) || (p.live && (p.awaiting is 2))))
 
