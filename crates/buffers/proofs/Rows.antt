@@ -13,7 +13,7 @@ use Rattle.bits.specs.Bits.{if◌then◌else◌, ◌is◌}
 use Rattle.buffers.specs.Splice.{Wrote}
 use Rattle.buffers.specs.Digits.{digits_of}
 use Rattle.buffers.specs.Rows.{row_of}
-use Rattle.buffers.proofs.Splices.{Writing, writing_all, writing_part, writing_done, wrote_byte, wrote_then, wrote_length}
+use Rattle.buffers.proofs.Splices.{Writing, writing_part, writing_done, wrote_byte, wrote_then, wrote_length}
 use Rattle.buffers.proofs.Decimals.{length_below}
 
 -- a row is its first number, what stands behind it, and the row of the others
@@ -33,10 +33,6 @@ module _ (ns old : List ℕ) (at : ℕ) where
     pub within : i ≤ length ns
     pub room : next ≤ at + 21 * i
     pub rest : Writing old at (row_of ns) out next (row_of (drop i ns))
-
-  -- before the first number
-  pub begin : Before old at 0
-  begin = record { within = omega arith; room = omega arith; rest = writing_all old at (row_of ns) }
 
   -- number i has room, with a byte behind it
   pub space : {out : List ℕ} {next i : ℕ} → at + 21 * length ns ≤ length old → i < length ns → Fits w64 (get_or ns i 0) → Before out next i
