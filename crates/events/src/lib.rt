@@ -19,6 +19,7 @@ pub struct Acted {
 }
 
 // One port obeys a control word. A entering or leaving mode 2 also lowers B's Ready.
+#[tactic(auto, using(crate::proofs::Ways::obey_b, crate::proofs::Ways::obey_a))]
 fn obey_word(c: Chip, on_b: bool, w: Word) -> Chip
     ensures { result ≡ obey (side on_b) w c }
 {
@@ -38,6 +39,7 @@ fn obey_word(c: Chip, on_b: bool, w: Word) -> Chip
 }
 
 // A control byte. A refusal leaves at once with the chip as it was.
+#[tactic(auto, using(crate::proofs::Ways::left_early, crate::proofs::Ways::went_on))]
 fn control(c: Chip, on_b: bool, value: u8) -> Acted
     ensures { result ≡ controlled_of (side on_b) value c }
 {
@@ -59,6 +61,7 @@ fn control(c: Chip, on_b: bool, value: u8) -> Acted
 }
 
 // The CPU writes data to a port.
+#[tactic(auto, using(crate::proofs::Ways::write_b, crate::proofs::Ways::write_a))]
 pub fn write_data(c: Chip, on_b: bool, value: u8) -> Chip
     ensures { result ≡ changed (side on_b) (write value) c }
 {
@@ -77,6 +80,7 @@ pub fn write_data(c: Chip, on_b: bool, value: u8) -> Chip
 }
 
 // The CPU has read a port. A read of A in mode 2 raises B's Ready.
+#[tactic(auto, using(crate::proofs::Ways::read_b, crate::proofs::Ways::read_a))]
 pub fn read_data(c: Chip, on_b: bool) -> Chip
     ensures { result ≡ changed (side on_b) read c }
 {
@@ -98,6 +102,7 @@ pub fn read_data(c: Chip, on_b: bool) -> Chip
 }
 
 // A port's Strobe goes to `level`.
+#[tactic(auto, using(crate::proofs::Ways::strobe_b, crate::proofs::Ways::strobe_a))]
 fn strobe_line(c: Chip, on_b: bool, level: bool) -> Chip
     ensures { result ≡ changed (side on_b) (strobe level) c }
 {
@@ -117,6 +122,7 @@ fn strobe_line(c: Chip, on_b: bool, level: bool) -> Chip
 }
 
 // The outside levels of a port's lines.
+#[tactic(auto, using(crate::proofs::Ways::outside_b, crate::proofs::Ways::outside_a))]
 fn outside_lines(c: Chip, on_b: bool, value: u8) -> Chip
     ensures { result ≡ changed (side on_b) (outside value) c }
 {
@@ -135,6 +141,7 @@ fn outside_lines(c: Chip, on_b: bool, value: u8) -> Chip
 }
 
 // One event of kinds 3 to 7 at one port of the chip, and the settling after it.
+#[tactic(auto, using(bits::proofs::Tests::tests, crate::proofs::Ways::act_control, crate::proofs::Ways::act_write, crate::proofs::Ways::act_read, crate::proofs::Ways::act_strobe, crate::proofs::Ways::act_outside))]
 pub fn act(c: Chip, on_b: bool, kind: u8, value: u8) -> Acted
     ensures { result ≡ act_of (side on_b) (event_of kind value) value c }
 {
