@@ -4,7 +4,7 @@ use Rattle.bits.specs.Bits.{if◌then◌else◌}
 use Rattle.buffers.specs.Splice.{has_room, if_room, Wrote}
 use Rattle.buffers.specs.Text.{ascii}
 use Rattle.buffers.specs.Rows.{row_of}
-use Rattle.buffers.proofs.Splices.{wrote_none, wrote_all, Writing, writing_all, writing_part, writing_done}
+use Rattle.buffers.proofs.Splices.{wrote_none, wrote_all, Writing, writing_part, writing_done}
 use Rattle.text.specs.Listing.{after, listing_of, tail_of}
 
 -- one element, and four, from index k on
@@ -39,10 +39,6 @@ module _ (bs old : List ℕ) (at first : ℕ) where
     pub within : i ≤ length bs / 4
     pub room : next ≤ at + 105 * i
     pub rest : Writing old at (listing_of first bs) out next (listing_of number (drop (4 * i) bs))
-
-  -- before the first record
-  pub begin : Before old at first 0
-  begin = record { within = omega arith; room = omega arith; rest = writing_all old at (listing_of first bs) }
 
   -- record i has its line
   pub turn : {out m : List ℕ} {next n number i : ℕ} → at + 105 * (length bs / 4) ≤ length old → i < length bs / 4 → Before out next number i
