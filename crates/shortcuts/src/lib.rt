@@ -16,6 +16,7 @@ use port::Port;
 use words::Heard;
 
 // The port's input register takes its lines, if it follows them.
+#[tactic(auto, using(crate::proofs::Sound::follow_none, crate::proofs::Sound::follow_taken))]
 fn follow_lines(p: Port, follows: bool) -> Port
     ensures { result ≡ following follows p }
 {
@@ -28,6 +29,7 @@ fn follow_lines(p: Port, follows: bool) -> Port
 }
 
 // Both registers take their lines, where they follow them.
+#[tactic(auto, using(crate::proofs::Sound::both_follow))]
 fn follow(c: Chip) -> Chip
     ensures { result ≡ followed c }
 {
@@ -38,6 +40,7 @@ fn follow(c: Chip) -> Chip
 }
 
 // The level of a strobe that an event may move.
+#[tactic(auto, using(bits::proofs::Tests::take, bits::proofs::Tests::skip))]
 fn level_at(moved: bool, level: bool, old: bool) -> bool
     ensures { result ≡ (if moved then level else old) }
 {
@@ -48,6 +51,7 @@ fn level_at(moved: bool, level: bool, old: bool) -> bool
 }
 
 // A strobe goes to a level: registers may follow, and no match changes. The other strobe stays at its level, which is no edge.
+#[tactic(auto, using(crate::proofs::Sound::strobe_is))]
 pub fn strobe(c: Chip, on_b: bool, level: bool) -> Chip
     ensures { sound_chip c ≡ true → result ≡ step (side on_b) (strobe level) c }
 {
@@ -62,6 +66,7 @@ pub fn strobe(c: Chip, on_b: bool, level: bool) -> Chip
 }
 
 // Outside levels: the port that has the lines settles.
+#[tactic(auto, using(crate::proofs::Sound::lines_b, crate::proofs::Sound::lines_a))]
 pub fn lines(c: Chip, on_b: bool, value: u8) -> Chip
     ensures { sound_chip c ≡ true → result ≡ step (side on_b) (outside value) c }
 {
@@ -82,6 +87,7 @@ pub fn lines(c: Chip, on_b: bool, value: u8) -> Chip
 }
 
 // A data write leaves nothing to settle.
+#[tactic(auto, using(crate::proofs::Sound::write_is))]
 pub fn write(c: Chip, on_b: bool, value: u8) -> Chip
     ensures { sound_chip c ≡ true → result ≡ step (side on_b) (write value) c }
 {
@@ -89,6 +95,7 @@ pub fn write(c: Chip, on_b: bool, value: u8) -> Chip
 }
 
 // Nor does a data read, which answers the byte read.
+#[tactic(auto, using(crate::proofs::Sound::act_read))]
 pub fn read(c: Chip, on_b: bool, value: u8) -> Acted
     ensures { sound_chip c ≡ true → result ≡ act_of (side on_b) (event_of 5 value) value c }
 {
@@ -102,6 +109,7 @@ pub fn read(c: Chip, on_b: bool, value: u8) -> Acted
 }
 
 // A control byte to B leaves A as it was. A refusal leaves at once with the chip as it was.
+#[tactic(auto, using(crate::proofs::Sound::refused_b, crate::proofs::Sound::word_b))]
 pub fn control_b(c: Chip, value: u8) -> Acted
     ensures { sound_chip c ≡ true → result ≡ act_of (side true) (event_of 3 value) value c }
 {
@@ -130,6 +138,7 @@ pub fn control_b(c: Chip, value: u8) -> Acted
 }
 
 // A control byte to A may couple B anew, so both settle.
+#[tactic(auto, using(crate::proofs::Sound::refused_a, crate::proofs::Sound::word_a))]
 pub fn control_a(c: Chip, value: u8) -> Acted
     ensures { sound_chip c ≡ true → result ≡ act_of (side false) (event_of 3 value) value c }
 {
