@@ -130,6 +130,7 @@ pub fn fresh(size: usize) -> Made
 }
 
 // Whether a fetch would make a port of the chip live.
+#[tactic(auto, unfolding(crate::specs::Halves::stirs))]
 pub fn stirred(c: Chip) -> bool
     ensures { result ≡ stirs c }
 {
@@ -139,6 +140,7 @@ pub fn stirred(c: Chip) -> bool
 }
 
 // One look at every chip that is there. The row's length is promised for callers whose row is a board's field.
+#[tactic(auto, using(crate::proofs::Loops::in_list))]
 pub fn look_over(size: u8, chips: [Chip; MOST]) -> Look
     ensures { (result ≡ look_of size chips) × (length chips ≡ most) }
 {
@@ -163,6 +165,7 @@ pub fn look_over(size: u8, chips: [Chip; MOST]) -> Look
 }
 
 // The lines driven at a place: the levels, and a 1 for each driven line.
+#[tactic(auto, using(crate::proofs::Steps::lines_unsound, crate::proofs::Steps::lines_beyond, crate::proofs::Steps::in_array, crate::proofs::Steps::lines_there))]
 pub fn driven_lines(board: Board, place: usize) -> Lines
     ensures { result ≡ lines_of board place }
 {

@@ -1,4 +1,4 @@
--- `board::fresh` meets its contract.
+-- `board::fresh` meets its contract: a size that a board has, and one that none has.
 -- Assumes nothing.
 use mathlib.Core.Path.{◌≡◌}
 use mathlib.Core.Bool.{true, false}
@@ -6,7 +6,6 @@ use Prim.Native.Nat.{ℕ, ◌≤◌, ◌<◌}
 use native.Mathlib.Omega.{arith}
 use lib.ListN.{replicate}
 use borrow.Author.Tests.{le-leb, lt-leb}
-use borrow.Author.Rules.{rules}
 use Rattle.bits.specs.Bits.{if◌then◌else◌}
 use Rattle.chip.specs.declared.Chip.{Chip}
 use Rattle.chip.specs.Chip.{chip_fresh}
@@ -14,8 +13,7 @@ use Rattle.chain.specs.Chain.{most}
 use Rattle.chain.specs.Decode.{shut}
 use Rattle.board.specs.declared.Made.{Made}
 use Rattle.board.specs.Board.{size_ok, fresh_of}
-use Rattle.board.proofs.fresh.Statement.{statement}
-use Rattle.board.proofs.fresh.Tie as tie
+use Rattle.board.proofs.fresh.Goals as goal
 
 refused : (n : ℕ) (c : Chip) → c ≡ chip_fresh → size_ok n ≡ false → ◌≡◌ {A = Made} (record { code = 33; board = record { size = 0; chips = replicate most c; decoder = shut } }) (fresh_of n)
 unfolding fresh_of if◌then◌else◌
@@ -34,21 +32,11 @@ many n h = rw (le-leb 1 n (omega arith), lt-leb n most h)
 some : (n : ℕ) → (n ≡ 0 → ⊥) → n ≤ most → size_ok n ≡ true
 some n z h = rw (le-leb 1 n (omega arith), le-leb n most h)
 
-returns : tie.Need-returns
-returns c = search (refused, none)
+pub returns-then-size-eq0 : goal.returns-then-size-eq0
+returns-then-size-eq0 c = search (refused, none)
 
-returns_2 : tie.Need-returns-2
-returns_2 c = search (refused, many)
+pub returns-then-size-gt-MOST : goal.returns-then-size-gt-MOST
+returns-then-size-gt-MOST c = search (refused, many)
 
-returns_3 : tie.Need-returns-3
-returns_3 c = search (given, some)
-
-pub fresh_spec : {M : Type 1} → statement M
-fresh_spec =
-    tie.close
-    (tie.spec
-    (λ c κs. search rules)
-    returns
-    returns_2
-    (λ c. search rules)
-    returns_3)
+pub returns : goal.returns
+returns c = search (given, some)
