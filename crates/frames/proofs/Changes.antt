@@ -4,7 +4,7 @@ use Rattle.std.proofs.Common.{◌≡◌, ℕ, suc, ◌+◌, ◌*◌, ◌<◌, �
 use Rattle.bits.specs.Bits.{if◌then◌else◌, ◌is◌}
 use Rattle.bits.proofs.Tests.{if_on, if_off}
 use Rattle.buffers.specs.Splice.{if_room, Wrote}
-use Rattle.buffers.proofs.Splices.{wrote_all, Writing, writing_all, writing_part, writing_done}
+use Rattle.buffers.proofs.Splices.{wrote_all, Writing, writing_part, writing_done}
 use Rattle.frames.specs.Frames.{identifier, time_line, value_line, changed_lines, later_frame}
 
 -- the lines from value i on
@@ -56,9 +56,6 @@ module _ (shown values : List ℕ) (s : length shown ≡ 9) (v : length values �
     pub named : character ≡ 33 + i
     pub room : next ≤ at + 3 * i
     pub rest : Writing old at (changed_lines 33 shown values) out next (lines_from i shown values)
-
-  pub begin : (old : List ℕ) (at : ℕ) → Changing old at old at 33 0
-  begin old at = record { within = omega arith; named = refl; room = omega arith; rest = writing_all old at (changed_lines 33 shown values) }
 
   -- the value is as it was shown
   pub pass : {old out : List ℕ} {at next character i : ℕ} → i < 9 → Changing old at out next character i → get_or values i 0 ≡ get_or shown i 0
