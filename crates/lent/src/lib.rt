@@ -17,7 +17,8 @@ pub fn step(board: &mut Board, event: &[u8]) -> Answer
     let w = plans::step_seen(board.size, board.decoder, seen, event);
     if w.whole {
         let s = steps::step_chips(board.size, board.chips, w);
-        board.chips = s.chips;
+        let chips = s.chips;
+        board.chips = chips;
         board.decoder = w.decoder;
         return s.answer;
     } else {
