@@ -90,16 +90,16 @@ match_says w p s =
     (both_say ((p.mode is 3) && (p.awaiting is 0)) seen (both_say (p.mode is 3) (p.awaiting is 0) (is_says p.mode 3) (is_says p.awaiting 0)) (self_says seen)) s in
     (λ e. let h = all.0 e in (h.0.0.0, h.0.0.1, h.0.1, h.1), λ h. all.1 (((h.0, h.1), h.2), h.3))
 
-port_says : (onB f w : Bool) (p : Port) {O F W : Type 0} → Says onB O → Says f F → Says w W → Says (sound_of onB f w p) (SoundPort O F W p)
-port_says onB f w p b follow watch =
-    let modes = both_say (ltb p.mode 4) (not (onB && (p.mode is 2))) (less_says p.mode 4) (not_both_says onB (p.mode is 2) b (is_says p.mode 2)) in
-    let vectors = both_say (mode_ok onB p.mode) (vector_ok p.vector) modes (is_says (p.vector % 2) 0) in
-    let enables = both_say (mode_ok onB p.mode && vector_ok p.vector) (enable_ok p.live p.asked) vectors (unless_says p.live p.asked (self_says p.live) (self_says p.asked)) in
+port_says : (on_b f w : Bool) (p : Port) {O F W : Type 0} → Says on_b O → Says f F → Says w W → Says (sound_of on_b f w p) (SoundPort O F W p)
+port_says on_b f w p b follow watch =
+    let modes = both_say (ltb p.mode 4) (not (on_b && (p.mode is 2))) (less_says p.mode 4) (not_both_says on_b (p.mode is 2) b (is_says p.mode 2)) in
+    let vectors = both_say (mode_ok on_b p.mode) (vector_ok p.vector) modes (is_says (p.vector % 2) 0) in
+    let enables = both_say (mode_ok on_b p.mode && vector_ok p.vector) (enable_ok p.live p.asked) vectors (unless_says p.live p.asked (self_says p.live) (self_says p.asked)) in
     let selects = both_say (ltb p.awaiting 3) (not (p.awaiting is 1) || (p.mode is 3)) (less_says p.awaiting 3) (unless_says (p.awaiting is 1) (p.mode is 3) (is_says p.awaiting 1) (is_says p.mode 3)) in
     let masks = both_say (ltb p.awaiting 3 && (not (p.awaiting is 1) || (p.mode is 3))) (not (p.live && (p.awaiting is 2))) selects (off_says p.live (p.awaiting is 2) (is_says p.awaiting 2)) in
-    let shapes = both_say (mode_ok onB p.mode && vector_ok p.vector && enable_ok p.live p.asked) (await_ok p.awaiting p.mode p.live) enables masks in
+    let shapes = both_say (mode_ok on_b p.mode && vector_ok p.vector && enable_ok p.live p.asked) (await_ok p.awaiting p.mode p.live) enables masks in
     let rests = both_say (beq p.matched (match_now p && w)) (not f || (p.input is p.lines)) (equal_says p.matched (match_now p && w) (match_says w p watch)) (unless_says f (p.input is p.lines) follow (is_says p.input p.lines)) in
-    let all = both_say (shape_of onB p) (rests_of f w p) shapes rests in (
+    let all = both_say (shape_of on_b p) (rests_of f w p) shapes rests in (
       λ e.
           let h = all.0 e in
           record {

@@ -12,11 +12,11 @@ use Rattle.bits.proofs.Logic.{both, join}
 
 -- ---- the four facts
 abbrev pub Facts : Bool → Port → Type 0
-Facts onB p = (mode_ok onB p.mode ≡ true) × (vector_ok p.vector ≡ true) × (enable_ok p.live p.asked ≡ true) × (await_ok p.awaiting p.mode p.live ≡ true)
+Facts on_b p = (mode_ok on_b p.mode ≡ true) × (vector_ok p.vector ≡ true) × (enable_ok p.live p.asked ≡ true) × (await_ok p.awaiting p.mode p.live ≡ true)
 
-pub facts : (onB : Bool) (p : Port) → shape_of onB p ≡ true → Facts onB p
-facts onB p e =
-    let m = mode_ok onB p.mode in
+pub facts : (on_b : Bool) (p : Port) → shape_of on_b p ≡ true → Facts on_b p
+facts on_b p e =
+    let m = mode_ok on_b p.mode in
     let v = vector_ok p.vector in
     let n = enable_ok p.live p.asked in
     let w = await_ok p.awaiting p.mode p.live in
@@ -25,9 +25,9 @@ facts onB p e =
     let z = both m v y.0 in
     (z.0, z.1, y.1, x.1)
 
-pub shape : (onB : Bool) (p : Port) → Facts onB p → shape_of onB p ≡ true
-shape onB p f =
-    let m = mode_ok onB p.mode in
+pub shape : (on_b : Bool) (p : Port) → Facts on_b p → shape_of on_b p ≡ true
+shape on_b p f =
+    let m = mode_ok on_b p.mode in
     let v = vector_ok p.vector in
     let n = enable_ok p.live p.asked in
     join (m && v && n) (await_ok p.awaiting p.mode p.live) (join (m && v) n (join m v f.0 f.1) f.2) f.3
@@ -47,17 +47,17 @@ wake_await true false false t e = refl
 wake_await false live asked t e = e
 
 -- ---- fetch, reset
-pub woken_facts : (onB : Bool) (p : Port) → Facts onB p → Facts onB (woken p)
-woken_facts onB p h = (
+pub woken_facts : (on_b : Bool) (p : Port) → Facts on_b p → Facts on_b (woken p)
+woken_facts on_b p h = (
   h.0,
   h.1,
   wake_enable p.live p.asked (not (p.awaiting is 2)) h.2,
   wake_await (ltb p.awaiting 3 && (not (p.awaiting is 1) || (p.mode is 3))) p.live p.asked (p.awaiting is 2) h.3,
 )
 
-mode_one : (onB : Bool) → mode_ok onB 1 ≡ true
+mode_one : (on_b : Bool) → mode_ok on_b 1 ≡ true
 mode_one true = refl
 mode_one false = refl
 
-pub cleared_facts : (onB : Bool) (p : Port) → Facts onB p → Facts onB (cleared p)
-cleared_facts onB p h = (mode_one onB, h.1, refl, refl)
+pub cleared_facts : (on_b : Bool) (p : Port) → Facts on_b p → Facts on_b (cleared p)
+cleared_facts on_b p h = (mode_one on_b, h.1, refl, refl)
