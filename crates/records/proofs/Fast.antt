@@ -3,7 +3,7 @@
 use mathlib.Core.Path.{◌≡◌, refl, ap, ◌∙◌}
 use mathlib.Core.Bool.{Bool, true, false, ◌&&◌, not}
 use mathlib.Core.List.{List, [], ◌∷◌}
-use Prim.Native.Nat.{ℕ, ◌+◌, ◌*◌, ◌/◌, ◌≤◌, ◌<◌}
+use Prim.Native.Nat.{ℕ, ◌+◌, ◌*◌, ◌/◌, ◌%◌, ◌≤◌, ◌<◌}
 use native.Mathlib.Nat.{add-zero}
 use native.Mathlib.Omega.{arith}
 use lib.Dec.{leb, ltb}
@@ -26,7 +26,8 @@ use Rattle.board.specs.Halves.{early_of, fetch_plan, accepted_plan, plan_of}
 use Rattle.board.proofs.Quick.{parts}
 use Rattle.board.proofs.Ways.{off}
 use Rattle.records.specs.Fast.{idles_of}
-use Rattle.records.proofs.Turns.{Running}
+use Rattle.records.specs.Records.{records, steps_of, answers_of}
+use Rattle.records.proofs.Turns.{Running, done}
 use Rattle.records.proofs.Kept.{Kept}
 use Rattle.records.proofs.Ways.{part_is, Going, idle_turn}
 
@@ -135,3 +136,27 @@ one_passed p more events byte d out' t e o = record {
       let r = p.after room inv in
       passing_turn (record { running = r.0; kept = r.1; more = more; events = events; room = room; byte = byte }) d out' t e o;
 }
+
+-- ---- behind such fetches: the run goes on with the next record, or is at its end
+module _ {es old : List ℕ} {start size : ℕ} {b₀ : Board} {chips : List Chip} {marks : Marks} {request : ℕ} {due : Bool} {out₁ : List ℕ} {d₁ : Decoder} {i₁ : ℕ}
+    {out₂ : List ℕ} {d₂ : Decoder} {i₂ : ℕ} (p : Passed es start (length es / 4) size chips marks request due out₁ d₁ i₁ out₂ d₂ i₂)
+    (r : Running es old start b₀ (length es / 4) out₁ (record { size = size; chips = chips; decoder = d₁ }) i₁)
+    (k : Kept (record { size = size; chips = chips; decoder = d₁ }) marks request due)
+    (given : (length es % 4 ≡ 0) × (start + length es / 4 ≤ length old / 4)) where
+  room : 4 * (start + length es / 4) ≤ length old
+  room = omega (arith, given.1)
+
+  pub goes_on : i₂ < length es / 4 → get_or es (4 * i₂ + 2) 0 < 256
+      → Going es old start b₀ (length es / 4) out₂ (record { size = size; chips = chips; decoder = d₂ }) marks request due i₂
+  goes_on more byte =
+      let after = p.after room (r, k) in
+      record { running = after.0; kept = after.1; more = more; events = omega arith; room = room; byte = byte }
+
+  pub ended : length es / 4 ≤ i₂
+      → (◌≡◌ {A = Board} (record { size = size; chips = chips; decoder = d₂ }) (steps_of b₀ (records es))) × (out₂ ≡ splice old (4 * start) (answers_of b₀ (records es)))
+  ended h = done es old start b₀ (length es / 4) (p.after room (r, k)).0 h (omega (arith, given.0))
+
+-- there is room for its answer
+pub room_here : {es old : List ℕ} {start : ℕ} {b₀ : Board} {n : ℕ} {out : List ℕ} {b : Board} {marks : Marks} {request : ℕ} {due : Bool} {i : ℕ}
+    → Going es old start b₀ n out b marks request due i → 4 * (start + i) + 4 ≤ length out
+room_here g = omega (arith, g.room, g.more, g.running.long)
