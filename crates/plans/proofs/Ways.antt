@@ -1,7 +1,7 @@
 -- What each way out of the first half gives, of any values: `search` finds the premises among what the calls ensure and what the
 -- branches tell.
 -- Assumes nothing.
-use mathlib.Core.Path.{◌≡◌, ap, ◌∙◌}
+use mathlib.Core.Path.{◌≡◌}
 use mathlib.Core.Bool.{Bool, true, false, ◌&&◌, ◌||◌, not}
 use mathlib.Core.List.{List}
 use Prim.Native.Nat.{ℕ, ◌*◌, ◌/◌, ◌-◌, ◌≤◌, ◌<◌}
@@ -14,11 +14,10 @@ use Rattle.bits.proofs.Logic.{by_cases}
 use Rattle.chain.specs.declared.Decoder.{Decoder}
 use Rattle.chain.specs.Decode.{shut, reti_of}
 use Rattle.chain.specs.Marks.{Marks, caller_of, holder_of}
-use Rattle.board.specs.declared.Board.{Board}
 use Rattle.board.specs.declared.Look.{Look}
 use Rattle.board.specs.declared.Plan.{Plan}
 use Rattle.board.specs.Step.{kind_of, place_of, value_of, place_bad, value_bad}
-use Rattle.board.specs.Halves.{look_of, early_of, early_at, idle, single, fetch_at, fetch_plan, acknowledge_plan, reset_plan, accepted_plan, plan_of, seen_plan, first_of}
+use Rattle.board.specs.Halves.{early_of, early_at, idle, single, fetch_at, fetch_plan, acknowledge_plan, reset_plan, accepted_plan, plan_of, seen_plan}
 
 -- ---- the early refusals
 -- `place / 2 < size` never forms the number of places
@@ -120,6 +119,3 @@ module _ (size : ℕ) (d : Decoder) (l : Look) (e : List ℕ) (p : Plan) where
   pub seen_bad : l.sound ≡ false → length e ≡ 4 → p ≡ idle d l.marks 35 (place_of e) (value_of e) 0 → p ≡ seen_plan size d l e
   unfolding seen_plan if◌then◌else◌
   seen_bad s n h = rw (s, eq-eqb (length e) 4 n) h
-
-pub seen_first : (b : Board) (e : List ℕ) (l : Look) (p : Plan) → l ≡ look_of b.size b.chips → p ≡ seen_plan b.size b.decoder l e → p ≡ first_of b e
-seen_first b e l p i h = h ∙ ap (λ (x : Look). seen_plan b.size b.decoder x e) i

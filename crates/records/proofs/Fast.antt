@@ -121,10 +121,6 @@ pub record Passed (es : List ℕ) (start n size : ℕ) (chips : List Chip) (mark
       → Running es old start b₀ n out₁ (record { size = size; chips = chips; decoder = d₁ }) i₁ × Kept (record { size = size; chips = chips; decoder = d₁ }) marks request due
       → Running es old start b₀ n out₂ (record { size = size; chips = chips; decoder = d₂ }) i₂ × Kept (record { size = size; chips = chips; decoder = d₂ }) marks request due
 
-pub none_passed : {es : List ℕ} {start n size : ℕ} {chips : List Chip} {marks : Marks} {request : ℕ} {due : Bool} {out : List ℕ} {d : Decoder} {i : ℕ}
-    → Passed es start n size chips marks request due out d i out d i
-none_passed = record { on = omega arith; after = λ room inv. inv }
-
 pub one_passed : {es : List ℕ} {start n size : ℕ} {chips : List Chip} {marks : Marks} {request : ℕ} {due : Bool} {out₁ : List ℕ} {d₁ : Decoder} {i₁ : ℕ}
     {out₂ : List ℕ} {d₂ : Decoder} {i₂ : ℕ} → Passed es start n size chips marks request due out₁ d₁ i₁ out₂ d₂ i₂ → i₂ < n → 4 * n ≤ length es → get_or es (4 * i₂ + 2) 0 < 256
     → (d : Decoder) (out' : List ℕ) → idles_of d₂ due es i₂ ≡ true → d ≡ next_of d₂ (get_or es (4 * i₂ + 2) 0)
