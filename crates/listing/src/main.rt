@@ -9,7 +9,7 @@ ghost use Rattle.records.specs.Records.{records, steps_of};
 ghost use Rattle.listing.specs.Text.{text_of};
 
 use board::Board;
-use libc::{STDIN_FILENO, STDOUT_FILENO};
+use std::io::{Cursor, Error, ErrorKind, Read, Write};
 
 // Where the listing stands: the board, the number of the next line, and whether there may be more to list.
 #[derive(Clone, Copy)]
@@ -27,23 +27,38 @@ struct Listed {
     end: usize,
 }
 
+// Says what failed and why, in the system's words alone: the number that std puts behind them is left out.
+fn fail(stderr: &mut impl Write, what: &str, error: Error) {
+    let mut words = Cursor::new([0u8; 128]);
+    let _ = write!(words, "{error}");
+    let bytes = words.into_inner();
+    let text = std::str::from_utf8(&bytes)
+        .unwrap_or("")
+        .trim_end_matches('\0');
+    let (why, _) = text.split_once(" (os error ").unwrap_or((text, ""));
+    let _ = writeln!(stderr, "{what}: {why}");
+}
+
 // Reads what has come, and then the rest of its last record. Answers how many bytes there are: none where the input has ended, and
 // a part of a record at the end only where the input ends there.
-fn read_records(buffer: &mut [u8]) -> usize
+fn read_records(stdin: &mut impl Read, stderr: &mut impl Write, buffer: &mut [u8]) -> usize
     requires { length buffer.old % 4 ≡ 0 }
     ensures { result ≤ length buffer.old }
 {
-    let got = libc::read(STDIN_FILENO, buffer);
-    if got < 0 {
-        os::fail(b"standard input");
-        return 0;
+    let mut n = match stdin.read(buffer) {
+        Ok(n) => n,
+        Err(error) => {
+            fail(stderr, "standard input", error);
+            return 0;
+        }
+    };
+    while n % 4 != 0 {
+        match stdin.read(&mut buffer[n..n + (4 - n % 4)]) {
+            Ok(0) | Err(_) => break,
+            Ok(more) => n += more,
+        }
     }
-    let n = io::count(got, buffer);
-    let over = n % 4;
-    if over == 0 {
-        return n;
-    }
-    n + io::read_full(STDIN_FILENO, &mut buffer[n..n + (4 - over)])
+    n
 }
 
 // The lines of the records in `input`, and the tail of its bytes over, at the start of `out`.
@@ -75,27 +90,37 @@ fn list_records(
 }
 
 // Writes the text, and answers whether all of it was taken. A reader that has left is no failure to speak of.
-fn write_text(text: &[u8]) -> bool {
-    if io::write_all(STDOUT_FILENO, text) {
-        return true;
+fn write_text(stdout: &mut impl Write, stderr: &mut impl Write, text: &[u8]) -> bool {
+    match stdout.write_all(text) {
+        Ok(()) => true,
+        Err(error) => {
+            if error.kind() != ErrorKind::BrokenPipe {
+                fail(stderr, "standard output", error);
+            }
+            false
+        }
     }
-    if os::errno() != libc::EPIPE {
-        os::fail(b"standard output");
-    }
-    false
 }
 
 // Lists what has come.
-fn list_some(stand: Stand, input: &mut [u8], answers: &mut [u8], out: &mut [u8]) -> Stand
+fn list_some(
+    stdin: &mut impl Read,
+    stdout: &mut impl Write,
+    stderr: &mut impl Write,
+    stand: Stand,
+    input: &mut [u8],
+    answers: &mut [u8],
+    out: &mut [u8],
+) -> Stand
     requires board_value { sound_board stand.board ≡ true }
     requires input_len { (length input.old ≡ 16384) × ((length answers.old ≡ 16384) × (length out.old ≡ 430106)) }
     ensures { sound_board result.board ≡ true }
 {
-    let n = read_records(input);
+    let n = read_records(stdin, stderr, input);
     let board = stand.board;
     let r = list_records(board, stand.number, &input[..n], answers, out);
     let end = r.end;
-    let taken = write_text(&out[..end]);
+    let taken = write_text(stdout, stderr, &out[..end]);
     let after = r.board;
     Stand {
         board: after,
@@ -118,8 +143,8 @@ fn page() -> [u8; 430106]
     [0; 430106]
 }
 
-// Nothing says that an input ends, so the turns are counted down from a number that no station reaches.
-fn main() {
+// Nothing says that an input ends, so the turns are counted, up to a number that no station reaches.
+fn main(rt: HostRuntime) {
     let made = board::fresh(4);
     let board = made.board;
     let mut stand = Stand {
@@ -130,9 +155,18 @@ fn main() {
     let mut input = chunk();
     let mut answers = chunk();
     let mut out = page();
-    let mut turns = u64::MAX;
-    while turns > 0 && stand.more {
-        stand = list_some(stand, &mut input, &mut answers, &mut out);
-        turns -= 1;
+    for _ in 0..u64::MAX {
+        if !stand.more {
+            break;
+        }
+        stand = list_some(
+            &mut rt.stdin(),
+            &mut rt.stdout(),
+            &mut rt.stderr(),
+            stand,
+            &mut input,
+            &mut answers,
+            &mut out,
+        );
     }
 }

@@ -13,8 +13,9 @@ ghost use Rattle.panel.specs.Text.{place_line, places_of, page_of, text_of};
 use board::Board;
 use chain::MOST;
 use chip::Chip;
-use libc::{STDERR_FILENO, STDIN_FILENO, STDOUT_FILENO};
 use port::Port;
+use std::env::{Env, FillError};
+use std::io::{Cursor, Error, ErrorKind, Read, Write};
 
 // Where the panel stands: the board, the number of the next line, and whether there may be more to show.
 #[derive(Clone, Copy)]
@@ -32,23 +33,38 @@ struct Shown {
     end: usize,
 }
 
+// Says what failed and why, in the system's words alone: the number that std puts behind them is left out.
+fn fail(stderr: &mut impl Write, what: &str, error: Error) {
+    let mut words = Cursor::new([0u8; 128]);
+    let _ = write!(words, "{error}");
+    let bytes = words.into_inner();
+    let text = std::str::from_utf8(&bytes)
+        .unwrap_or("")
+        .trim_end_matches('\0');
+    let (why, _) = text.split_once(" (os error ").unwrap_or((text, ""));
+    let _ = writeln!(stderr, "{what}: {why}");
+}
+
 // Reads what has come, and then the rest of its last record. Answers how many bytes there are: none where the input has ended, and
 // a part of a record at the end only where the input ends there.
-fn read_records(buffer: &mut [u8]) -> usize
+fn read_records(stdin: &mut impl Read, stderr: &mut impl Write, buffer: &mut [u8]) -> usize
     requires { length buffer.old % 4 ≡ 0 }
     ensures { result ≤ length buffer.old }
 {
-    let got = libc::read(STDIN_FILENO, buffer);
-    if got < 0 {
-        os::fail(b"standard input");
-        return 0;
+    let mut n = match stdin.read(buffer) {
+        Ok(n) => n,
+        Err(error) => {
+            fail(stderr, "standard input", error);
+            return 0;
+        }
+    };
+    while n % 4 != 0 {
+        match stdin.read(&mut buffer[n..n + (4 - n % 4)]) {
+            Ok(0) | Err(_) => break,
+            Ok(more) => n += more,
+        }
     }
-    let n = io::count(got, buffer);
-    let over = n % 4;
-    if over == 0 {
-        return n;
-    }
-    n + io::read_full(STDIN_FILENO, &mut buffer[n..n + (4 - over)])
+    n
 }
 
 // The line of the port `p`, which stands at a place of the board.
@@ -129,25 +145,34 @@ fn show_records(board: Board, number: u64, input: &[u8], out: &mut [u8]) -> Show
 }
 
 // Writes the text, and answers whether all of it was taken. A reader that has left is no failure to speak of.
-fn write_text(text: &[u8]) -> bool {
-    if io::write_all(STDOUT_FILENO, text) {
-        return true;
+fn write_text(stdout: &mut impl Write, stderr: &mut impl Write, text: &[u8]) -> bool {
+    match stdout.write_all(text) {
+        Ok(()) => true,
+        Err(error) => {
+            if error.kind() != ErrorKind::BrokenPipe {
+                fail(stderr, "standard output", error);
+            }
+            false
+        }
     }
-    if os::errno() != libc::EPIPE {
-        os::fail(b"standard output");
-    }
-    false
 }
 
 // Shows what has come.
-fn show_some(stand: Stand, input: &mut [u8], out: &mut [u8]) -> Stand
+fn show_some(
+    stdin: &mut impl Read,
+    stdout: &mut impl Write,
+    stderr: &mut impl Write,
+    stand: Stand,
+    input: &mut [u8],
+    out: &mut [u8],
+) -> Stand
     requires { (length input.old ≡ 256) × (length out.old ≡ 221786) }
 {
-    let n = read_records(input);
+    let n = read_records(stdin, stderr, input);
     let board = stand.board;
     let r = show_records(board, stand.number, &input[..n], out);
     let end = r.end;
-    let taken = write_text(&out[..end]);
+    let taken = write_text(stdout, stderr, &out[..end]);
     let after = r.board;
     Stand {
         board: after,
@@ -163,52 +188,63 @@ fn page() -> [u8; 221786]
     [0; 221786]
 }
 
-// The columns' names, and then what comes. Nothing says that an input ends, so the turns are counted down from a number that no
-// station reaches.
-fn show_all(board: Board) {
+// The columns' names, and then what comes. Nothing says that an input ends, so the turns are counted, up to a number that no station
+// reaches.
+fn show_all(stdin: &mut impl Read, stdout: &mut impl Write, stderr: &mut impl Write, board: Board) {
     let mut input = [0u8; 256];
     let mut out = page();
     let end = text::put_columns(&mut out, 0);
-    let taken = write_text(&out[..end]);
+    let taken = write_text(stdout, stderr, &out[..end]);
     let mut stand = Stand {
         board: board,
         number: 1,
         more: taken,
     };
-    let mut turns = u64::MAX;
-    while turns > 0 && stand.more {
-        stand = show_some(stand, &mut input, &mut out);
-        turns -= 1;
+    for _ in 0..u64::MAX {
+        if !stand.more {
+            break;
+        }
+        stand = show_some(stdin, stdout, stderr, stand, &mut input, &mut out);
     }
 }
 
+// How many words the program was started with, its own name among them.
+fn arg_count(rt: &impl Env) -> usize {
+    for i in 0..usize::MAX {
+        if let Err(FillError::NotPresent) = rt.arg(i, &mut []) {
+            return i;
+        }
+    }
+    usize::MAX
+}
+
 // The size that the program's argument asks for: 4 without one, and 0, which no board has, where it is no size.
-fn size_asked() -> usize {
-    let count = os::arg_count();
+fn size_asked(rt: &impl Env) -> usize {
+    let count = arg_count(rt);
     if count < 2 {
         return 4;
     }
     if count > 2 {
         return 0;
     }
-    let mut word = io::buffer();
-    let n = os::arg(1, &mut word);
+    let mut word = [0u8; 4096];
+    let n = rt.arg(1, &mut word).unwrap_or(0);
     text::size_in(&word[..n])
 }
 
 // There is no board of that size.
-fn refuse(code: u8) {
+fn refuse(stderr: &mut impl Write, code: u8) {
     let mut line = [0u8; 32];
     let end = text::put_refused(&mut line, 0, code);
-    io::write_all(STDERR_FILENO, &line[..end]);
+    let _ = stderr.write_all(&line[..end]);
 }
 
-fn main() {
-    let made = board::fresh(size_asked());
+fn main(rt: HostRuntime) {
+    let made = board::fresh(size_asked(&rt));
     if made.code != 0 {
-        refuse(made.code);
+        refuse(&mut rt.stderr(), made.code);
         return;
     }
     let board = made.board;
-    show_all(board);
+    show_all(&mut rt.stdin(), &mut rt.stdout(), &mut rt.stderr(), board);
 }
