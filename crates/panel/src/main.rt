@@ -14,8 +14,9 @@ use board::Board;
 use chain::MOST;
 use chip::Chip;
 use port::Port;
-use std::env::{Env, FillError};
+use std::env::FillError;
 use std::io::{Cursor, Error, ErrorKind, Read, Write};
+use std::rt::Env;
 
 // Where the panel stands: the board, the number of the next line, and whether there may be more to show.
 #[derive(Clone, Copy)]

@@ -63,7 +63,7 @@ roomy b events stamps e =
     (λ z.
     by_cases (wave_refusal b events stamps 639233 is 0)
     (λ y. absurd (omega (arith, rw y at e)))
-    (λ y. many (not (sound_board b)) (not (length events % 4 is 0)) [] (rw z at (rw y at e))))
+    (λ y. many (not (sound_board b)) (not (length events % 4 is 0)) _ (rw z at (rw y at e))))
     (λ z. never_forty b events stamps 639233 (omega (arith, ltb-false 16384 (length events / 4) z)) e)
 
 pub never : (size : ℕ) (events stamps : List ℕ) → (wave_of size events stamps 639233).code ≡ 40 → ⊥

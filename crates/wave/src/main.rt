@@ -2,11 +2,17 @@
 // refusal's line by `put_refusal`, whose contracts say them byte for byte; the rest reads and writes.
 #![tactic(auto)]
 
-ghost use Rattle.std.specs.Prelude.{◌≡◌, ◌+◌, ◌-◌, ◌≤◌, ◌<◌, length};
+ghost use Rattle.std.specs.Prelude.{◌≡◌, ◌+◌, ◌-◌, ◌≤◌, ◌<◌, length, IfOk};
 ghost use Rattle.buffers.specs.Splice.{Wrote};
 ghost use Rattle.wave.specs.Text.{kept_of, next_at, SameBefore, ReadInParts, ByOwnLength, wave_of, buffer_of, refusal_line};
 
-use libc::{STDERR_FILENO, STDOUT_FILENO};
+use std::env::FillError;
+use std::io::{Cursor, Error, ErrorKind, Read, Write};
+use std::rt::{Env, Files};
+use std::{fs, io};
+
+// The system's number for a name that is too long.
+const ENAMETOOLONG: i32 = 36;
 
 // How far a file is read: its length so far as `kept` counts it, whether there may be more, and whether it cannot be read.
 #[derive(Clone, Copy)]
@@ -21,6 +27,19 @@ struct Stand {
 struct Wave {
     code: u8,
     length: usize,
+}
+
+// Says what failed and why, in the system's words alone: the number that std puts behind them is left out.
+fn fail(stderr: &mut impl Write, what: &[u8], error: Error) {
+    let mut words = Cursor::new([0u8; 128]);
+    let _ = write!(words, "{error}");
+    let bytes = words.into_inner();
+    let text = std::str::from_utf8(&bytes)
+        .unwrap_or("")
+        .trim_end_matches('\0');
+    let (why, _) = text.split_once(" (os error ").unwrap_or((text, ""));
+    let _ = stderr.write_all(what);
+    let _ = writeln!(stderr, ": {why}");
 }
 
 // The length that a file of `n` bytes is taken for. From `limit` on it is too long for any recording, its bytes matter no more, and of
@@ -48,40 +67,47 @@ fn next_at(count: usize, limit: usize) -> usize
 }
 
 // One read to index `at` on.
-fn read_at(fd: i32, buffer: &mut [u8], at: usize) -> isize
+fn read_at(file: &mut impl Read, buffer: &mut [u8], at: usize) -> io::Result<usize>
     requires { at ≤ length buffer.old }
-    ensures { SameBefore at buffer.old buffer.new }
+    ensures same_before { SameBefore at buffer.old buffer.new }
+    ensures bound { IfOk result (λ n. at + n ≤ length buffer.old) }
 {
-    libc::read(fd, &mut buffer[at..])
+    file.read(&mut buffer[at..])
 }
 
 // Reads what comes next; what was read before stays. A file that cannot be read is named.
-fn read_more(fd: i32, path: &[u8], buffer: &mut [u8], count: usize) -> Stand
+fn read_more(
+    file: &mut impl Read,
+    stderr: &mut impl Write,
+    path: &[u8],
+    buffer: &mut [u8],
+    count: usize,
+) -> Stand
     requires { (4 ≤ length buffer.old) × ((length buffer.old ≤ 65544) × (count < length buffer.old)) }
     ensures count_in_bounds { result.count < length buffer.old }
     ensures same_before { SameBefore (next_at (length buffer.old - 4) count) buffer.old buffer.new }
 {
     let limit = buffer.len() - 4;
     let at = next_at(count, limit);
-    let got = read_at(fd, buffer, at);
-    if got < 0 {
-        os::fail(path);
-        return Stand {
-            count: count,
-            more: false,
-            failed: true,
-        };
-    }
-    let n = io::count(got, buffer);
-    Stand {
-        count: kept(count + n, limit),
-        more: n != 0,
-        failed: false,
+    match read_at(file, buffer, at) {
+        Ok(n) => Stand {
+            count: kept(count + n, limit),
+            more: n != 0,
+            failed: false,
+        },
+        Err(error) => {
+            fail(stderr, path, error);
+            Stand {
+                count: count,
+                more: false,
+                failed: true,
+            }
+        }
     }
 }
 
-// Reads a file to its end. Nothing says that it ends, so the turns are counted down from a number that no file reaches.
-fn read_all(fd: i32, path: &[u8], buffer: &mut [u8]) -> Stand
+// Reads a file to its end. Nothing says that it ends, so the turns are counted, up to a number that no file reaches.
+fn read_all(file: &mut impl Read, stderr: &mut impl Write, path: &[u8], buffer: &mut [u8]) -> Stand
     requires { (4 ≤ length buffer.old) × (length buffer.old ≤ 65544) }
     ensures { result.count < length buffer.old }
 {
@@ -90,49 +116,63 @@ fn read_all(fd: i32, path: &[u8], buffer: &mut [u8]) -> Stand
         more: true,
         failed: false,
     };
-    let mut turns = u64::MAX;
-    while turns > 0 && stand.more {
-        stand = read_more(fd, path, buffer, stand.count);
-        turns -= 1;
+    for _ in 0..u64::MAX {
+        if !stand.more {
+            break;
+        }
+        stand = read_more(file, stderr, path, buffer, stand.count);
     }
     stand
+}
+
+// Opens the file of that name. std opens a file by text alone.
+fn open<R: Files>(rt: &R, path: &[u8]) -> io::Result<R::File> {
+    match std::str::from_utf8(path) {
+        Ok(name) => fs::open(rt, name),
+        Err(_) => Err(Error::new(ErrorKind::InvalidFilename, "the name is not UTF-8")),
+    }
 }
 
 // Opens a file and reads it. One that cannot be opened is named.
-fn read_named(path: &[u8], buffer: &mut [u8]) -> Stand
+fn read_named(rt: &impl Files, stderr: &mut impl Write, path: &[u8], buffer: &mut [u8]) -> Stand
     requires { (4 ≤ length buffer.old) × (length buffer.old ≤ 65544) }
     ensures { result.count < length buffer.old }
 {
-    let fd = os::open_read(path);
-    if fd < 0 {
-        os::fail(path);
-        return Stand {
-            count: 0,
-            more: false,
-            failed: true,
-        };
+    match open(rt, path) {
+        Ok(mut file) => read_all(&mut file, stderr, path, buffer),
+        Err(error) => {
+            fail(stderr, path, error);
+            Stand {
+                count: 0,
+                more: false,
+                failed: true,
+            }
+        }
     }
-    let stand = read_all(fd, path, buffer);
-    libc::close(fd);
-    stand
 }
 
 // Reads the file that an argument of the program names.
-fn read_file(argument: usize, buffer: &mut [u8]) -> Stand
+fn read_file(
+    rt: &(impl Env + Files),
+    stderr: &mut impl Write,
+    argument: usize,
+    buffer: &mut [u8],
+) -> Stand
     requires { (4 ≤ length buffer.old) × (length buffer.old ≤ 65544) }
     ensures { result.count < length buffer.old }
 {
-    let mut path = io::buffer();
-    let n = os::arg(argument, &mut path);
-    if os::errno() != 0 {
-        os::fail(&path);
-        return Stand {
-            count: 0,
-            more: false,
-            failed: true,
-        };
+    let mut path = [0u8; 4096];
+    match rt.arg(argument, &mut path) {
+        Ok(n) => read_named(rt, stderr, &path[..n], buffer),
+        Err(_) => {
+            fail(stderr, &path, Error::from_raw_os_error(ENAMETOOLONG));
+            Stand {
+                count: 0,
+                more: false,
+                failed: true,
+            }
+        }
     }
-    read_named(&path[..n], buffer)
 }
 
 // The text of a recording on a fresh board of `size` chips, at the start of `out`; or the code of the refusal.
@@ -182,19 +222,18 @@ fn put_refusal(out: &mut [u8], code: u8) -> usize
 }
 
 // Says a refusal on standard error.
-fn refuse(code: u8) {
+fn refuse(stderr: &mut impl Write, code: u8) {
     let mut line = [0u8; 64];
     let end = put_refusal(&mut line, code);
-    io::write_all(STDERR_FILENO, &line[..end]);
+    let _ = stderr.write_all(&line[..end]);
 }
 
 // Writes the text. A reader that has left is no failure to speak of.
-fn write_text(text: &[u8]) {
-    if io::write_all(STDOUT_FILENO, text) {
-        return;
-    }
-    if os::errno() != libc::EPIPE {
-        os::fail(b"standard output");
+fn write_text(stdout: &mut impl Write, stderr: &mut impl Write, text: &[u8]) {
+    if let Err(error) = stdout.write_all(text)
+        && error.kind() != ErrorKind::BrokenPipe
+    {
+        fail(stderr, b"standard output", error);
     }
 }
 
@@ -206,24 +245,40 @@ fn page() -> [u8; 639233]
 }
 
 // Makes the text and writes it, or says the refusal.
-fn show(size: usize, events: &[u8], stamps: &[u8]) {
+fn show(
+    stdout: &mut impl Write,
+    stderr: &mut impl Write,
+    size: usize,
+    events: &[u8],
+    stamps: &[u8],
+) {
     let mut out = page();
     let made = make_text(size, events, stamps, &mut out);
     if made.code != 0 {
-        refuse(made.code);
+        refuse(stderr, made.code);
         return;
     }
     let end = made.length;
-    write_text(&out[..end]);
+    write_text(stdout, stderr, &out[..end]);
+}
+
+// How many words the program was started with, its own name among them.
+fn arg_count(rt: &impl Env) -> usize {
+    for i in 0..usize::MAX {
+        if let Err(FillError::NotPresent) = rt.arg(i, &mut []) {
+            return i;
+        }
+    }
+    usize::MAX
 }
 
 // The size that the third argument asks for: 4 without one, and 0, which no board has, where it is no size.
-fn size_asked(count: usize) -> usize {
+fn size_asked(rt: &impl Env, count: usize) -> usize {
     if count < 4 {
         return 4;
     }
-    let mut word = io::buffer();
-    let n = os::arg(3, &mut word);
+    let mut word = [0u8; 4096];
+    let n = rt.arg(3, &mut word).unwrap_or(0);
     text::size_in(&word[..n])
 }
 
@@ -247,27 +302,37 @@ fn long_files()
 {}
 
 // Reads the two files, and then shows their recording.
-fn export_files(size: usize) {
+fn export_files(
+    rt: &(impl Env + Files),
+    stdout: &mut impl Write,
+    stderr: &mut impl Write,
+    size: usize,
+) {
     let mut events = events_buffer();
-    let first = read_file(1, &mut events);
+    let first = read_file(rt, stderr, 1, &mut events);
     if first.failed {
         return;
     }
     let mut stamps = stamps_buffer();
-    let second = read_file(2, &mut stamps);
+    let second = read_file(rt, stderr, 2, &mut stamps);
     if second.failed {
         return;
     }
     let n = first.count;
     let m = second.count;
-    show(size, &events[..n], &stamps[..m]);
+    show(stdout, stderr, size, &events[..n], &stamps[..m]);
 }
 
-fn main() {
-    let count = os::arg_count();
+fn main(rt: HostRuntime) {
+    let count = arg_count(&rt);
     if (count < 3) | (count > 4) {
-        io::write_all(STDERR_FILENO, b"usage: wave EVENTS STAMPS [SIZE]\n");
+        let _ = eprintln!(rt; "usage: wave EVENTS STAMPS [SIZE]");
         return;
     }
-    export_files(size_asked(count));
+    export_files(
+        &rt,
+        &mut rt.stdout(),
+        &mut rt.stderr(),
+        size_asked(&rt, count),
+    );
 }
