@@ -1,7 +1,7 @@
 -- The ways out of `refusal` and of `run`.
 -- Assumes nothing.
 use mathlib.Core.Path.{◌≡◌, ap, ◌∙◌}
-use mathlib.Core.Bool.{Bool, true, false, not}
+use mathlib.Core.Bool.{Bool, true, false}
 use mathlib.Core.List.{List}
 use Prim.Native.Nat.{ℕ, ◌+◌, ◌*◌, ◌/◌, ◌%◌, ◌≤◌, ◌<◌}
 use native.Mathlib.Omega.{arith}
@@ -13,7 +13,7 @@ use Rattle.board.specs.declared.Board.{Board}
 use Rattle.board.specs.declared.Look.{Look}
 use Rattle.board.specs.Board.{sound_board}
 use Rattle.board.specs.Halves.{look_of}
-use Rattle.board.proofs.Ways.{on, sound_is}
+use Rattle.board.proofs.Ways.{sound_is}
 use Rattle.run.specs.declared.Ran.{Ran}
 use Rattle.records.specs.Records.{records, steps_of, answers_of}
 use Rattle.run.specs.Run.{refusal_of, ran_of, buffer_of}
@@ -23,21 +23,21 @@ abbrev Accepts : Bool → ℕ → ℕ → ℕ → ℕ → Type 0
 Accepts sound events room start code = code ≡ 0 → (sound ≡ true) × ((events % 4 ≡ 0) × (start + events / 4 ≤ room / 4))
 
 module _ (sound : Bool) (events room start : ℕ) where
-  pub unsound_refused : not sound ≡ true → (35 ≡ refusal_of sound events room start) × Accepts sound events room start 35
+  pub unsound_refused : sound ≡ false → (35 ≡ refusal_of sound events room start) × Accepts sound events room start 35
   unfolding refusal_of
   unsound_refused t = (rw t, λ z. absurd (omega (arith, z)))
 
-  pub length_refused : not sound ≡ false → (events % 4 ≡ 0 → ⊥) → (32 ≡ refusal_of sound events room start) × Accepts sound events room start 32
+  pub length_refused : sound ≡ true → (events % 4 ≡ 0 → ⊥) → (32 ≡ refusal_of sound events room start) × Accepts sound events room start 32
   unfolding refusal_of
   length_refused t n = (rw (t, ne_eqb (events % 4) 0 n), λ z. absurd (omega (arith, z)))
 
-  pub room_refused : not sound ≡ false → events % 4 ≡ 0 → room / 4 < start + events / 4 → (34 ≡ refusal_of sound events room start) × Accepts sound events room start 34
+  pub room_refused : sound ≡ true → events % 4 ≡ 0 → room / 4 < start + events / 4 → (34 ≡ refusal_of sound events room start) × Accepts sound events room start 34
   unfolding refusal_of
   room_refused t n h = (rw (t, eq-eqb (events % 4) 0 n, lt-ltb (room / 4) (start + events / 4) h), λ z. absurd (omega (arith, z)))
 
-  pub none_refused : not sound ≡ false → events % 4 ≡ 0 → start + events / 4 ≤ room / 4 → (0 ≡ refusal_of sound events room start) × Accepts sound events room start 0
+  pub none_refused : sound ≡ true → events % 4 ≡ 0 → start + events / 4 ≤ room / 4 → (0 ≡ refusal_of sound events room start) × Accepts sound events room start 0
   unfolding refusal_of
-  none_refused t n h = (rw (t, eq-eqb (events % 4) 0 n, le-ltb (room / 4) (start + events / 4) h), λ z. (on sound t, (n, h)))
+  none_refused t n h = (rw (t, eq-eqb (events % 4) 0 n, le-ltb (room / 4) (start + events / 4) h), λ z. (t, (n, h)))
 
 -- ---- the ways out of `run`
 module _ (b : Board) (es old : List ℕ) (start : ℕ) (l : Look) (i : l ≡ look_of b.size b.chips) (code : ℕ) (e : code ≡ refusal_of l.sound (length es) (length old) start) where
