@@ -1,6 +1,6 @@
 -- The ways out of `refusal` and of `export`.
 -- Assumes nothing.
-use mathlib.Core.Path.{◌≡◌, refl, sym, ap, ◌∙◌}
+use mathlib.Core.Path.{◌≡◌, refl, sym, ◌∙◌}
 use mathlib.Core.Bool.{Bool, true, false, not}
 use mathlib.Core.List.{List, [], ◌∷◌, ◌++◌}
 use Prim.Native.Nat.{ℕ, ◌+◌, ◌*◌, ◌/◌, ◌%◌, ◌≤◌, ◌<◌}
@@ -15,7 +15,7 @@ use Rattle.board.specs.declared.Look.{Look}
 use Rattle.board.specs.Board.{sound_board}
 use Rattle.board.specs.Step.{line, verdict}
 use Rattle.board.specs.Halves.{look_of}
-use Rattle.board.proofs.Ways.{on, sound_is}
+use Rattle.board.proofs.Ways.{sound_is}
 use Rattle.records.specs.Records.{records, steps_of}
 use Rattle.recording.specs.declared.Exported.{Exported}
 use Rattle.recording.specs.Wave.{wave_text, refusal_of, wave_refusal, exported_of, page_of}
@@ -29,31 +29,31 @@ module _ (sound : Bool) (events stamps text room : ℕ) where
   abbrev Says : ℕ → Type 0
   Says code = (code ≡ refusal_of sound events stamps text room) × (code ≡ 0 → Good sound events stamps text room)
 
-  pub unsound_refused : not sound ≡ true → Says 35
+  pub unsound_refused : sound ≡ false → Says 35
   unfolding refusal_of
   unsound_refused t = (rw t, λ z. absurd (omega (arith, z)))
 
-  pub length_refused : not sound ≡ false → (events % 4 ≡ 0 → ⊥) → Says 32
+  pub length_refused : sound ≡ true → (events % 4 ≡ 0 → ⊥) → Says 32
   unfolding refusal_of
   length_refused t n = (rw (t, ne_eqb (events % 4) 0 n), λ z. absurd (omega (arith, z)))
 
-  pub count_refused : not sound ≡ false → events % 4 ≡ 0 → 16384 < events / 4 → Says 36
+  pub count_refused : sound ≡ true → events % 4 ≡ 0 → 16384 < events / 4 → Says 36
   unfolding refusal_of
   count_refused t n m = (rw (t, eq-eqb (events % 4) 0 n, lt-ltb 16384 (events / 4) m), λ z. absurd (omega (arith, z)))
 
-  pub stamps_refused : not sound ≡ false → events % 4 ≡ 0 → events / 4 ≤ 16384 → (stamps ≡ 2 * (events / 4) → ⊥) → Says 41
+  pub stamps_refused : sound ≡ true → events % 4 ≡ 0 → events / 4 ≤ 16384 → (stamps ≡ 2 * (events / 4) → ⊥) → Says 41
   unfolding refusal_of
   stamps_refused t n m s = (rw (t, eq-eqb (events % 4) 0 n, le-ltb 16384 (events / 4) m, ne_eqb stamps (2 * (events / 4)) s), λ z. absurd (omega (arith, z)))
 
-  pub room_refused : not sound ≡ false → events % 4 ≡ 0 → events / 4 ≤ 16384 → stamps ≡ 2 * (events / 4) → room < text → Says 40
+  pub room_refused : sound ≡ true → events % 4 ≡ 0 → events / 4 ≤ 16384 → stamps ≡ 2 * (events / 4) → room < text → Says 40
   unfolding refusal_of
   room_refused t n m s h =
       (rw (t, eq-eqb (events % 4) 0 n, le-ltb 16384 (events / 4) m, eq-eqb stamps (2 * (events / 4)) s, lt-ltb room text h), λ z. absurd (omega (arith, z)))
 
-  pub none_refused : not sound ≡ false → events % 4 ≡ 0 → events / 4 ≤ 16384 → stamps ≡ 2 * (events / 4) → text ≤ room → Says 0
+  pub none_refused : sound ≡ true → events % 4 ≡ 0 → events / 4 ≤ 16384 → stamps ≡ 2 * (events / 4) → text ≤ room → Says 0
   unfolding refusal_of
   none_refused t n m s h =
-      (rw (t, eq-eqb (events % 4) 0 n, le-ltb 16384 (events / 4) m, eq-eqb stamps (2 * (events / 4)) s, le-ltb room text h), λ z. (on sound t, (n, (m, (s, h)))))
+      (rw (t, eq-eqb (events % 4) 0 n, le-ltb 16384 (events / 4) m, eq-eqb stamps (2 * (events / 4)) s, le-ltb room text h), λ z. (t, (n, (m, (s, h)))))
 
 -- a refusal that does not wait for the text: a longer text is refused with the same number
 sooner : (p q r s t u : Bool) → (t ≡ true → u ≡ true) → (verdict (line p 35 ∷ line q 32 ∷ line r 36 ∷ line s 41 ∷ line t 40 ∷ []) ≡ 0 → ⊥)
@@ -90,8 +90,8 @@ module _ (b : Board) (es ss old : List ℕ) (l : Look) (i : l ≡ look_of b.size
       (λ q. z (e ∙ rw (sound_is b l i) q)))))
 
   module _ (g : Good l.sound (length es) (length ss) 257 (length old)) where
-    quiet : not (sound_board b) ≡ false
-    quiet = ap not (sym (sound_is b l i) ∙ g.0)
+    quiet : sound_board b ≡ true
+    quiet = sym (sound_is b l i) ∙ g.0
 
     pub long_refused : length old < text → Out (record { code = 40; length = 0; board = b }) old
     long_refused h = refused 40 (λ z. absurd (omega (arith, z))) (room_refused (sound_board b) (length es) (length ss) text (length old) quiet g.1.0 g.1.1.0 g.1.1.1.0 h).0
