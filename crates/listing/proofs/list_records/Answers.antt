@@ -1,5 +1,5 @@
 -- `listing::list_records` meets its contract. Assumes nothing.
-use Rattle.std.proofs.Common.{◌≡◌, ◌+◌, ◌*◌, ◌/◌, ◌≤◌, length, ap, ◌∙◌, arith}
+use Rattle.std.proofs.Common.{◌+◌, ◌*◌, ◌/◌, ◌≤◌, length, ap, ◌∙◌, arith}
 use Rattle.buffers.specs.Splice.{Wrote}
 use Rattle.run.specs.declared.Ran.{Ran}
 use Rattle.listing.specs.Text.{text_of}
