@@ -19,7 +19,7 @@ WIDTH = 136
 
 # Events of a place, by their kind.
 CONTROL, WRITE, READ, STROBE, LINES = 3, 4, 5, 6, 7
-AT_A_PLACE = {CONTROL: "control", WRITE: "write", STROBE: "strobe-to", LINES: "lines-to"}
+AT_A_PLACE = {CONTROL: "control", WRITE: "write", STROBE: "strobe_to", LINES: "lines_to"}
 FETCH = 1
 RESET_BYTES = [0, 0, 0, 0]
 ACKNOWLEDGE_BYTES = [2, 0, 0, 0]
@@ -28,32 +28,32 @@ SPECS_HEAD = """\
 -- Every session of tests/cases.txt as a row, written from it by tests/rows.py: change it there. Rows.antt has the words and says how a
 -- row is worked out; the head of cases.txt says what the letters of the names stand for.
 -- Assumes nothing.
-use mathlib.Core.List.{List, [], _∷_}
-use Rattle·board.specs.Step.{answer}
-use Rattle·sessions·specs.specs.Rows.{%s}
+use Rattle.std.specs.Prelude.{List, [], ◌∷◌}
+use Rattle.board.specs.Step.{answer}
+use Rattle.sessions.specs.Rows.{%s}
 """
 PROOFS_HEAD = """\
 -- Every row of specs/Sessions.antt, by computation. Written by tests/rows.py: one link of the chain for each row, so that a refusal
 -- names the rows that fail.
 -- Assumes nothing.
 use mathlib.Core.Path.{refl}
-use Rattle·bits.specs.Bits.{if_then_else_}
-use Rattle·bits.specs.Lines.{matchOf, mixedOf, levelsOf}
-use Rattle·port.specs.Rules.{matchNow}
-use Rattle·chip.specs.Sound.{soundChip}
-use Rattle·events.specs.Act.{eventOf}
-use Rattle·chain.specs.Chain.{acknowledged, retired}
-use Rattle·chain.specs.Decode.{nextOf, retiOf}
-use Rattle·board.specs.Board.{soundBoard, freshOf, requestOf, linesOf}
-use Rattle·board.specs.Step.{refusal, doingOf, taken, accepted, refused, stepOf}
-use Rattle·sessions·specs.specs.Sessions.{rows}
-use Rattle·sessions·proofs.proofs.Rows.{Each, none, _also_}
+use Rattle.bits.specs.Bits.{if◌then◌else◌}
+use Rattle.bits.specs.Lines.{match_of, mixed_of, levels_of}
+use Rattle.port.specs.Rules.{match_now}
+use Rattle.chip.specs.Sound.{sound_chip}
+use Rattle.events.specs.Act.{event_of}
+use Rattle.chain.specs.Chain.{acknowledged, retired}
+use Rattle.chain.specs.Decode.{next_of, reti_of}
+use Rattle.board.specs.Board.{sound_board, fresh_of, request_of, lines_of}
+use Rattle.board.specs.Step.{refusal, doing_of, taken, accepted, refused, step_of}
+use Rattle.sessions.specs.Sessions.{rows}
+use Rattle.sessions.proofs.Rows.{Each, none, ◌also◌}
 
-pub each-row : Each rows
-unfolding if_then_else_ matchOf mixedOf levelsOf matchNow soundChip eventOf acknowledged retired nextOf retiOf soundBoard freshOf requestOf linesOf refusal doingOf taken accepted refused stepOf
-each-row =
+pub each_row : Each rows
+unfolding if◌then◌else◌ match_of mixed_of levels_of match_now sound_chip event_of acknowledged retired next_of reti_of sound_board fresh_of request_of lines_of refusal doing_of taken accepted refused step_of
+each_row =
 """
-WORDS = ("bytes reset fetch acknowledge control write read strobe-to lines-to _gives_ _≔_ some every Row session "
+WORDS = ("bytes reset fetch acknowledge control write read strobe_to lines_to ◌gives◌ ◌≔◌ some every Row session "
          "refused after").split()
 
 
@@ -125,7 +125,7 @@ def row(case):
 
 def title(case):
     """The row's own name: a dot would be read as a field."""
-    return case.name.replace(".", "·")
+    return case.name.lower().replace(".", "_")
 
 
 def broken(words):
