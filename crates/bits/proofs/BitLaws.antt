@@ -1,5 +1,6 @@
 -- Laws of bits.
 -- Assumes nothing.
+use Rattle.std.specs.Prelude.{if◌then◌else◌}
 use mathlib.Core.Path.{◌≡◌, refl, sym, ap, ap₂, ◌∙◌, subst}
 use mathlib.Core.Bool.{Bool, true, false, ◌&&◌, ◌||◌, not, beq}
 use mathlib.Core.Logic.{⊎_elim}
@@ -8,7 +9,7 @@ use native.Mathlib.Nat.{mod-lt, zero-lt-suc, not-suc-le-zero, le_of_suc-le-suc, 
 use native.Mathlib.Omega.{arith}
 use lib.Dec.{T, eqb, eqb→eq}
 use lib.Bits.{bit_and, bit_or, and_shr, and_mod, and_le_l, or_shr, or_mod}
-use Rattle.bits.specs.Bits.{if◌then◌else◌, bit, some, every, number}
+use Rattle.bits.specs.Bits.{bit, some, every, number}
 
 -- ---- a test at every number below n, which antt computes, holds at each of them
 and_left : (a b : Bool) → T (a && b) → T a
@@ -109,7 +110,7 @@ number_test : ℕ → Bool
 number_test a = eqb a (number 8 (λ k. bit k a))
 
 pub byte_is : (a : ℕ) → a < 256 → a ≡ number 8 (λ k. bit k a)
-unfolding number_test if◌then◌else◌
+unfolding number_test
 byte_is a ha = eqb→eq a (number 8 (λ k. bit k a)) (below 256 number_test tt a ha)
 
 -- so a byte with the bits f is the number of f

@@ -1,5 +1,6 @@
 -- What the code computes on whole bytes is what the definitions say line by line.
 -- Assumes nothing.
+use Rattle.std.specs.Prelude.{if◌then◌else◌}
 use mathlib.Core.Path.{◌≡◌, refl, ap, ap₂, ◌∙◌}
 use mathlib.Core.Bool.{Bool, true, false, ◌&&◌, ◌||◌, not, beq}
 use Prim.Native.Nat.{ℕ, zero, suc, ◌-◌, ◌<◌}
@@ -7,7 +8,7 @@ use native.Mathlib.Omega.{arith}
 use lib.Dec.{eqb}
 use borrow.Author.Tests.{ne_eqb}
 use lib.Bits.{bit_and, bit_or, and_le_l, or_lt}
-use Rattle.bits.specs.Bits.{if◌then◌else◌, bit, some, every}
+use Rattle.bits.specs.Bits.{bit, some, every}
 use Rattle.bits.specs.Lines.{counts, active, active_of, match_of, mixed_of, levels_of}
 use Rattle.bits.proofs.BitLaws.{some_ext, every_ext, bit_and_lem, bit_or_lem, bit_not, not_zero, and_some, and_none, byte_of}
 
@@ -30,12 +31,10 @@ counting select mask hm k hk = bit_and_lem k select (255 - mask) ∙ ap (λ (b :
 
 -- bit k of the levels is 1 where line k is active
 at_active : (lines : ℕ) (high : Bool) → lines < 256 → (k : ℕ) → k < 8 → bit k (active_of lines high) ≡ active lines high k
-unfolding if◌then◌else◌
 at_active lines true hl k hk = beq_true (bit k lines)
 at_active lines false hl k hk = bit_not k lines hk hl ∙ beq_false (bit k lines)
 
 active_fit : (lines : ℕ) (high : Bool) → lines < 256 → active_of lines high < 256
-unfolding if◌then◌else◌
 active_fit lines true h = h
 active_fit lines false h = omega arith
 
@@ -64,13 +63,13 @@ module _ (select mask : ℕ) (hs : select < 256) (hm : mask < 256) where
 by_or :
     (select mask lines on : ℕ) (high all : Bool) → all ≡ false → on ≡ active_of lines high → select < 256 → mask < 256 → lines < 256 →
     not (eqb (bit_and (bit_and select (255 - mask)) on) 0) ≡ match_of select mask lines high all
-unfolding match_of if◌then◌else◌
+unfolding match_of
 by_or select mask lines on high all a e hs hm hl = rw (a, e) (some_on select mask hs hm lines high hl)
 
 by_and :
     (select mask lines on : ℕ) (high all : Bool) → all ≡ true → on ≡ active_of lines high → select < 256 → mask < 256 → lines < 256 →
     (not (eqb (bit_and select (255 - mask)) 0) && eqb (bit_and (bit_and select (255 - mask)) (255 - on)) 0) ≡ match_of select mask lines high all
-unfolding match_of if◌then◌else◌
+unfolding match_of
 by_and select mask lines on high all a e hs hm hl = rw (a, e) (ap₂ ◌&&◌ (some_count select mask hs hm) (none_off select mask hs hm lines high hl))
 
 -- `matches` asks one question for both: is a watched line active (OR), or inactive (AND)? OR of no line is no match without being asked
@@ -93,7 +92,6 @@ at_or lines true = refl
 at_or lines false = refl
 
 at_and : (lines : ℕ) (high : Bool) → lines < 256 → active_of lines (not (beq high true)) ≡ 255 - active_of lines high
-unfolding if◌then◌else◌
 at_and lines true h = refl
 at_and lines false h = omega arith
 
@@ -109,7 +107,6 @@ by_both select mask lines seen high true e hs hm hl =
 
 -- `select & lines | out & !select`, bit by bit
 chosen : (s l o : Bool) → ((s && l) || (o && not s)) ≡ (if s then l else o)
-unfolding if◌then◌else◌
 chosen true true true = refl
 chosen true true false = refl
 chosen true false true = refl

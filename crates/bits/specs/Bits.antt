@@ -1,11 +1,6 @@
 -- The words that all the definitions use: the choice between two values, and numbers as rows of bits.
 -- Assumes nothing.
-use Rattle.std.specs.Prelude.{ℕ, zero, suc, ◌+◌, ◌/◌, ◌%◌, ◌^◌, Bool, true, false, ◌&&◌, ◌||◌, eqb}
-
-infixr 10 if◌then◌else◌
-unfoldable pub if◌then◌else◌ : {A : Type 0} → Bool → A → A → A
-if true then a else b = a
-if false then a else b = b
+use Rattle.std.specs.Prelude.{ℕ, zero, suc, ◌+◌, ◌/◌, ◌%◌, ◌^◌, Bool, true, false, ◌&&◌, ◌||◌, eqb, if◌then◌else◌}
 
 -- m is n: the two numbers are equal
 infix 50 ◌is◌

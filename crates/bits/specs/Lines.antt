@@ -1,8 +1,8 @@
 -- The eight lines of a port, line by line. Document 01, "Data, handshake, bits": match, read in mode 3, driven lines.
 -- Assumes nothing.
-use Rattle.std.specs.Prelude.{ℕ, ◌-◌, Bool, ◌&&◌, ◌||◌, not}
+use Rattle.std.specs.Prelude.{ℕ, ◌-◌, Bool, ◌&&◌, ◌||◌, not, if◌then◌else◌}
 use Rattle.std.specs.Bool.{beq}
-use Rattle.bits.specs.Bits.{if◌then◌else◌, bit, some, every, number}
+use Rattle.bits.specs.Bits.{bit, some, every, number}
 
 -- line k counts in the match: it is an input bit (select 1) with mask bit 0
 abbrev pub counts : ℕ → ℕ → ℕ → Bool

@@ -1,5 +1,6 @@
 -- The two halves of the code are the step: on a sound board, what the first half reads and the second half changes is `step_of`.
 -- Assumes nothing.
+use Rattle.std.specs.Prelude.{if◌then◌else◌}
 use mathlib.Core.Path.{◌≡◌, refl, sym, ap, ap₂, ◌∙◌}
 use mathlib.Core.Bool.{Bool, true, false, false≢true}
 use mathlib.Core.List.{List, [], ◌∷◌, ◌++◌, map}
@@ -9,7 +10,7 @@ use lib.Dec.{ltb, leb}
 use lib.ListN.{length, length-take, get_or, set, drop, take-append-drop}
 use lib.Seq.{set-get_or, get_or-take}
 use borrow.Author.Tests.{ne_eqb, eqb-true, ltb-true, leb-true}
-use Rattle.bits.specs.Bits.{if◌then◌else◌, ◌is◌}
+use Rattle.bits.specs.Bits.{◌is◌}
 use Rattle.bits.proofs.Logic.{by_cases, both}
 use Rattle.bits.proofs.Tests.{if_on, if_off}
 use Rattle.port.specs.Rules.{served, released}
@@ -53,12 +54,12 @@ abbrev held : Board → List Chip → Decoder → Answer → Stepped
 held b cs d a = record { board = record { size = b.size; chips = cs; decoder = d }; answer = a }
 
 step_accepts : (b : Board) (e : List ℕ) → (length e is 4) ≡ true → refusal b e ≡ 0 → step_of b e ≡ result b (doing_of e) (value_of e)
-unfolding step_of accepted if◌then◌else◌
+unfolding step_of accepted
 step_accepts b e l r = rw (l, r)
 
 step_refuses : (b : Board) (e : List ℕ) (code : ℕ) → (length e is 4) ≡ true → refusal b e ≡ code → (code is 0) ≡ false → sound_board b ≡ true
     → step_of b e ≡ record { board = b; answer = answer code (place_of e) (value_of e) (request_of b) }
-unfolding step_of refused if◌then◌else◌
+unfolding step_of refused
 step_refuses b e code l r z s = rw (l, r, z, s)
 
 module _ (b : Board) (s : sound_board b ≡ true) (len : length b.chips ≡ most) where
@@ -102,21 +103,19 @@ module _ (b : Board) (s : sound_board b ≡ true) (len : length b.chips ≡ most
 
   -- ---- a reset
   does_reset : (v r : ℕ) → carried b (reset_plan (marks_of b.size b.chips) v r) ≡ result b reset v
-  unfolding carried swept_of if◌then◌else◌ taken
+  unfolding carried swept_of taken
   does_reset v r = settles reset v (within b.size (map cleaned) b.chips) (answer 0 0 v) (λ q. refl) refl
 
   -- ---- a fetch that releases nobody
   fetch_still : (v : ℕ) → reti_of b.decoder v ≡ false → quick b.decoder (fetch v) (there b) ≡ map chip.fetch (there b)
-  unfolding if◌then◌else◌
   fetch_still v e = rw e
 
   fetch_nobody : (v : ℕ) → ltb (holder (ports b)) (length (ports b)) ≡ false → quick b.decoder (fetch v) (there b) ≡ map chip.fetch (there b)
-  unfolding if◌then◌else◌
   fetch_nobody v e = by_cases (reti_of b.decoder v) (λ t. rw t (ap (map chip.fetch) (none_released (there b) e))) (λ t. rw t)
 
   does_fetch : (due : Bool) (v : ℕ) → (due ≡ false → Still (there b)) → quick b.decoder (fetch v) (there b) ≡ map chip.fetch (there b)
       → carried b (fetch_at b.decoder (marks_of b.size b.chips) due false 0 v (caller_of (marks_of b.size b.chips))) ≡ result b (fetch v) v
-  unfolding carried swept_of if◌then◌else◌ taken
+  unfolding carried swept_of taken
   does_fetch true v right e = settles (fetch v) v (within b.size (map chip.fetch) b.chips) (answer 0 0 v) (λ q. refl) (ap (λ (l : List Chip). l ++ drop b.size b.chips) (sym e))
   does_fetch false v right e = settles (fetch v) v b.chips (answer 0 0 v) (λ q. refl) (stays (quick b.decoder (fetch v) (there b)) (e ∙ right refl))
 
@@ -126,7 +125,6 @@ module _ (b : Board) (s : sound_board b ≡ true) (len : length b.chips ≡ most
   releasing k e = rw e
 
   fetch_frees : (v k : ℕ) → reti_of b.decoder v ≡ true → k ≡ holder (ports b) → quick b.decoder (fetch v) (there b) ≡ map chip.fetch (adjust (on (side_of k) released) (k / 2) (there b))
-  unfolding if◌then◌else◌
   fetch_frees v k t e = rw t (ap (map chip.fetch) (releasing k e))
 
   freed_chips : (k : ℕ) → k < b.size * 2 → set b.chips (k / 2) (on (side_of k) released (get_or b.chips (k / 2) blank)) ≡ adjust (on (side_of k) released) (k / 2) (there b) ++ drop b.size b.chips
@@ -143,7 +141,7 @@ module _ (b : Board) (s : sound_board b ≡ true) (len : length b.chips ≡ most
 
   does_free : (due : Bool) (v k : ℕ) → (due ≡ false → Still (there b)) → reti_of b.decoder v ≡ true → k ≡ holder (ports b) → k < b.size * 2
       → carried b (fetch_at b.decoder (marks_of b.size b.chips) due true k v (caller_of (marks_of b.size b.chips))) ≡ result b (fetch v) v
-  unfolding carried swept_of changed_of touched_of if◌then◌else◌ taken
+  unfolding carried swept_of changed_of touched_of taken
   does_free true v k right t e h =
       rw (index k h)
       (settles (fetch v) v (within b.size (map chip.fetch) (set b.chips (k / 2) (on (side_of k) released (get_or b.chips (k / 2) blank)))) (answer 0 0 v) (λ q. refl)
@@ -156,7 +154,7 @@ module _ (b : Board) (s : sound_board b ≡ true) (len : length b.chips ≡ most
 
   -- ---- an acknowledge
   does_nobody : (v : ℕ) → asks (ports b) ≡ false → carried b (idle shut (marks_of b.size b.chips) 3 0 255 (caller_of (marks_of b.size b.chips))) ≡ result b acknowledge v
-  unfolding carried if◌then◌else◌ taken
+  unfolding carried taken
   does_nobody v e = settles acknowledge v b.chips (answer 3 0 255) (λ q. rw e) (stays (acknowledged (there b)) (none_answers (there b) e))
 
   serving : (k : ℕ) → k ≡ asker (ports b) → acknowledged (there b) ≡ adjust (on (side_of k) served) (k / 2) (there b)
@@ -165,7 +163,7 @@ module _ (b : Board) (s : sound_board b ≡ true) (len : length b.chips ≡ most
 
   does_answer : (v k : ℕ) → asks (ports b) ≡ true → k ≡ asker (ports b) → k < b.size * 2
       → carried b (single shut (marks_of b.size b.chips) 2 2 k 0 (caller_of (marks_of b.size b.chips))) ≡ result b acknowledge v
-  unfolding carried changed_of touched_of if◌then◌else◌ taken
+  unfolding carried changed_of touched_of taken
   does_answer v k t e h =
       rw (index k h)
       (settles_one acknowledge v (k / 2) (on (side_of k) served (get_or b.chips (k / 2) blank)) (answer 2 k (port (side_of k) (get_or b.chips (k / 2) blank)).vector) (omega arith)
@@ -187,7 +185,7 @@ module _ (b : Board) (s : sound_board b ≡ true) (len : length b.chips ≡ most
   does_at : (kind place v : ℕ) (e : Event) → (kind is 1) ≡ false → (kind is 2) ≡ false → event_of kind v ≡ e → place < b.size * 2
       → ((q : ℕ) → answer (code_at (side_of place) e (chip_at place)) place (value_at (side_of place) e v (chip_at place)) q ≡ answered b (at place e) v q)
       → carried b (single b.decoder (marks_of b.size b.chips) kind 0 place v (caller_of (marks_of b.size b.chips))) ≡ result b (at place e) v
-  unfolding carried changed_of touched_of act_of if◌then◌else◌ taken
+  unfolding carried changed_of touched_of act_of taken
   does_at kind place v e f g i h p =
       rw (f, g, i, index place h)
       (settles_one (at place e) v (place / 2) (step (side_of place) e (chip_at place)) (answer (code_at (side_of place) e (chip_at place)) place (value_at (side_of place) e v (chip_at place)))
@@ -197,7 +195,7 @@ module _ (b : Board) (s : sound_board b ≡ true) (len : length b.chips ≡ most
   does_nothing : (kind place v code : ℕ) → (kind is 1) ≡ false → (kind is 2) ≡ false → (kind is 3) ≡ true → place < b.size * 2
       → code_of (heard (side_of place) v (chip_at place)) ≡ code → step_word (side_of place) (heard (side_of place) v (chip_at place)) (chip_at place) ≡ chip_at place
       → carried b (single b.decoder (marks_of b.size b.chips) kind 0 place v (caller_of (marks_of b.size b.chips))) ≡ record { board = b; answer = answer code place v (request_of b) }
-  unfolding carried changed_of touched_of act_of step if◌then◌else◌
+  unfolding carried changed_of touched_of act_of step
   does_nothing kind place v code f g t h c w =
       rw (f, g, event_control kind v t, index place h, w, c)
       (ap (λ (ms : Marks). held b (set b.chips (place / 2) (chip_at place)) b.decoder (answer code place v (caller_of ms))) (sym (marks_set b.size b.chips (place / 2) (chip_at place) (omega arith)))
@@ -210,12 +208,12 @@ module _ (b : Board) (s : sound_board b ≡ true) (len : length b.chips ≡ most
     marks = marks_of b.size b.chips
 
     stops : (length e is 4) ≡ false → carried b (idle b.decoder marks 32 0 0 0) ≡ step_of b e
-    unfolding carried step_of if◌then◌else◌
+    unfolding carried step_of
     stops l = rw l
 
     module _ (l : (length e is 4) ≡ true) where
       refuses : (early_at b.size e is 0) ≡ false → carried b (idle b.decoder marks (early_at b.size e) (place_of e) (value_of e) (caller_of marks)) ≡ step_of b e
-      unfolding carried if◌then◌else◌
+      unfolding carried
       refuses z =
           ap (λ (r : ℕ). record { board = b; answer = answer (early_at b.size e) (place_of e) (value_of e) r }) (request_is b.size b.chips b.decoder)
           ∙ sym (step_refuses b e (early_at b.size e) l (refusal_is b e s ∙ if_off (early_at b.size e is 0) _ _ z) z s)
@@ -234,7 +232,7 @@ module _ (b : Board) (s : sound_board b ≡ true) (len : length b.chips ≡ most
         not_three m n k = rw (eqb-true (kind_of e) m k) n
 
         by_fetch : (kind_of e is 1) ≡ true → carried b (fetch_plan b.decoder marks due (value_of e) (caller_of marks)) ≡ step_of b e
-        unfolding fetch_plan doing_of if◌then◌else◌
+        unfolding fetch_plan doing_of
         by_fetch k =
             let v = value_of e in
             let kind = eqb-true (kind_of e) 1 k in
@@ -248,19 +246,19 @@ module _ (b : Board) (s : sound_board b ≡ true) (len : length b.chips ≡ most
             (λ t. rw t (does_fetch due v right (fetch_still v t))))
 
         by_reset : (kind_of e is 0) ≡ true → carried b (reset_plan marks (value_of e) (caller_of marks)) ≡ step_of b e
-        unfolding doing_of if◌then◌else◌
+        unfolding doing_of
         by_reset k = takes reset (carried b (reset_plan marks (value_of e) (caller_of marks))) (rw k) (not_three 0 refl k) (does_reset (value_of e) (caller_of marks))
 
         plan_answer : asks (ports b) ≡ true → acknowledge_plan marks (caller_of marks) ≡ single shut marks 2 2 (asker (ports b) + 1 - 1) 0 (caller_of marks)
-        unfolding acknowledge_plan if◌then◌else◌
+        unfolding acknowledge_plan
         plan_answer t = rw (caller_is b.size b.chips, t, ne_eqb (asker (ports b) + 1) 0 (λ n. omega (arith, n)))
 
         plan_nobody : asks (ports b) ≡ false → acknowledge_plan marks (caller_of marks) ≡ idle shut marks 3 0 255 (caller_of marks)
-        unfolding acknowledge_plan if◌then◌else◌
+        unfolding acknowledge_plan
         plan_nobody t = rw (caller_is b.size b.chips, t)
 
         by_acknowledge : (kind_of e is 2) ≡ true → carried b (acknowledge_plan marks (caller_of marks)) ≡ step_of b e
-        unfolding doing_of if◌then◌else◌
+        unfolding doing_of
         by_acknowledge k =
             takes acknowledge (carried b (acknowledge_plan marks (caller_of marks))) (rw (eqb-true (kind_of e) 2 k)) (not_three 2 refl k)
             (by_cases (asks (ports b))
@@ -272,7 +270,7 @@ module _ (b : Board) (s : sound_board b ≡ true) (len : length b.chips ≡ most
         at_plan = single b.decoder marks (kind_of e) 0 (place_of e) (value_of e) (caller_of marks)
 
         doing_at : (kind_of e is 0) ≡ false → (kind_of e is 1) ≡ false → (kind_of e is 2) ≡ false → doing_of e ≡ at (place_of e) (event_of (kind_of e) (value_of e))
-        unfolding doing_of if◌then◌else◌
+        unfolding doing_of
         doing_at i j k = rw (i, j, k)
 
         -- the word that the table speaks of is the one that the chip hears
@@ -307,7 +305,7 @@ module _ (b : Board) (s : sound_board b ≡ true) (len : length b.chips ≡ most
             (answer_plain (place_of e) (value_of e) (event_of (kind_of e) (value_of e)) on_board (event_plain (kind_of e) (value_of e) t))))
 
         goes_on : carried b (accepted_plan b.decoder marks due (caller_of marks) (kind_of e) (place_of e) (value_of e)) ≡ step_of b e
-        unfolding accepted_plan if◌then◌else◌
+        unfolding accepted_plan
         goes_on =
             by_cases (kind_of e is 1) (λ j. rw j (by_fetch j)) (λ j. rw j
             (by_cases (kind_of e is 0) (λ i. rw i (by_reset i)) (λ i. rw i
@@ -315,7 +313,7 @@ module _ (b : Board) (s : sound_board b ≡ true) (len : length b.chips ≡ most
 
     -- THE HALVES ARE THE STEP
     pub halves : carried b (plan_of b.size b.decoder marks due (caller_of marks) e) ≡ step_of b e
-    unfolding plan_of if◌then◌else◌
+    unfolding plan_of
     halves =
         by_cases (length e is 4) (λ l. rw l
         (by_cases (early_at b.size e is 0) (λ z. rw z (goes_on l z)) (λ z. rw z (refuses l z)))) (λ l. rw l (stops l))

@@ -1,6 +1,7 @@
 -- What holds of the first half of a step on a sound board, whatever the event: it hands on the marks, the chip that it names is on the
 -- board, and of four bytes it hands on the request. The one place, beside Halves.antt, that goes through a plan's tests.
 -- Assumes nothing.
+use Rattle.std.specs.Prelude.{if◌then◌else◌}
 use mathlib.Core.Path.{◌≡◌, refl, sym, ◌∙◌}
 use mathlib.Core.Bool.{Bool, true, false, not, false≢true, true≢false}
 use mathlib.Core.List.{List}
@@ -9,7 +10,7 @@ use native.Mathlib.Omega.{arith}
 use lib.Dec.{ltb}
 use lib.ListN.{length}
 use borrow.Author.Tests.{eq-eqb, ltb-true}
-use Rattle.bits.specs.Bits.{if◌then◌else◌, ◌is◌}
+use Rattle.bits.specs.Bits.{◌is◌}
 use Rattle.bits.proofs.Tests.{if_on}
 use Rattle.chain.specs.Chain.{most, asker, asks, holder}
 use Rattle.chain.specs.Decode.{reti_of}
@@ -31,12 +32,10 @@ pub record Planned (b : Board) (e : List ℕ) (w : Plan) : Type 0 where
   pub asked : length e ≡ 4 → w.request ≡ caller_of (marks_of b.size b.chips)
 
 by_if : (P : Plan → Type 0) (t : Bool) (x y : Plan) → (t ≡ true → P x) → (t ≡ false → P y) → P (if t then x else y)
-unfolding if◌then◌else◌
 by_if P true x y f g = f refl
 by_if P false x y f g = g refl
 
 choice_found : (t : Bool) (k : ℕ) → ((if t then k else 0) is 0) ≡ false → t ≡ true
-unfolding if◌then◌else◌
 choice_found true k e = refl
 choice_found false k e = absurd (true≢false e)
 

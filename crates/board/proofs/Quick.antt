@@ -1,13 +1,14 @@
 -- "After every accepted event" of document 01 is of all places. On a sound board it comes to the same where only the chip that the
 -- event concerned is settled; and every event keeps a sound board sound.
 -- Assumes nothing.
+use Rattle.std.specs.Prelude.{if◌then◌else◌}
 use mathlib.Core.Path.{◌≡◌, refl, ap₂}
 use mathlib.Core.Bool.{Bool, true, false}
 use mathlib.Core.List.{List, [], ◌∷◌, map}
 use Prim.Native.Nat.{ℕ, zero, suc, ◌/◌}
 use lib.Dec.{ltb}
 use lib.ListN.{length}
-use Rattle.bits.specs.Bits.{if◌then◌else◌, ◌is◌}
+use Rattle.bits.specs.Bits.{◌is◌}
 use Rattle.bits.proofs.Logic.{by_cases, both, join}
 use Rattle.port.specs.Rules.{served, released}
 use Rattle.chip.specs.declared.Chip.{Chip}
@@ -41,7 +42,6 @@ map_sound f k [] h = refl
 map_sound f k (c ∷ cs) h = let s = both (sound_chip c) (sound_all cs) h in join (sound_chip (f c)) (sound_all (map f cs)) (k c s.0) (map_sound f k cs s.1)
 
 choice_sound : (t : Bool) (x y : List Chip) → sound_all x ≡ true → sound_all y ≡ true → sound_all (if t then x else y) ≡ true
-unfolding if◌then◌else◌
 choice_sound true x y p q = p
 choice_sound false x y p q = q
 
@@ -114,14 +114,14 @@ taken_sound b e byte h =
     (rw (there_taken b e, after_quick b.decoder e (there b) s.1) (quick_sound b.decoder e (there b) byte s.1))
 
 pub doing_bytes : (e : List ℕ) → ltb (value_of e) 256 ≡ true → bytes_in (doing_of e) ≡ true
-unfolding doing_of if◌then◌else◌
+unfolding doing_of
 doing_bytes e h =
     by_cases (kind_of e is 0) (λ i. rw i) (λ i. rw i
     (by_cases (kind_of e is 1) (λ i. rw i) (λ i. rw i
     (by_cases (kind_of e is 2) (λ i. rw i) (λ i. rw i (event_byte (kind_of e) (value_of e) h))))))
 
 pub step_sound : (b : Board) (e : List ℕ) → ltb (value_of e) 256 ≡ true → sound_board b ≡ true → sound_board (step_of b e).board ≡ true
-unfolding step_of accepted refused if◌then◌else◌
+unfolding step_of accepted refused
 step_sound b e byte h =
     by_cases (length e is 4) (λ i. rw i
     (by_cases (refusal b e is 0) (λ j. rw j (taken_sound b (doing_of e) (doing_bytes e byte) h)) (λ j. rw j h))) (λ i. rw i h)

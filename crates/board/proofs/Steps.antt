@@ -1,6 +1,7 @@
 -- The step of any board, sound or not, from its halves; and the driven lines. `driven_lines` cites these laws, and so do the step, a
 -- run and a lent step, in the crates above.
 -- Assumes nothing.
+use Rattle.std.specs.Prelude.{if◌then◌else◌}
 use mathlib.Core.Path.{◌≡◌, refl, sym, ap, ◌∙◌}
 use mathlib.Core.Bool.{Bool, true, false, ◌&&◌, ◌||◌, not, true≢false}
 use mathlib.Core.List.{List, [], ◌∷◌}
@@ -10,7 +11,7 @@ use lib.Dec.{leb}
 use lib.ListN.{length, get_or}
 use lib.Seq.{set-get_or}
 use borrow.Author.Tests.{lt-ltb, le-ltb, leb-true}
-use Rattle.bits.specs.Bits.{if◌then◌else◌, ◌is◌}
+use Rattle.bits.specs.Bits.{◌is◌}
 use Rattle.bits.proofs.Logic.{by_cases, both}
 use Rattle.bits.proofs.Tests.{if_on, if_off}
 use Rattle.port.specs.Fields.{live_at}
@@ -67,16 +68,16 @@ unfolding refusal
 unsound_refused b e s = rw s
 
 unsound_short : (b : Board) (e : List ℕ) → (length e is 4) ≡ false → carried b (idle b.decoder (marks_of b.size b.chips) 32 0 0 0) ≡ step_of b e
-unfolding carried step_of if◌then◌else◌
+unfolding carried step_of
 unsound_short b e l = rw l
 
 unsound_bad : (b : Board) (e : List ℕ) → sound_board b ≡ false → (length e is 4) ≡ true → carried b (idle b.decoder (marks_of b.size b.chips) 35 (place_of e) (value_of e) 0) ≡ step_of b e
-unfolding carried step_of refused if◌then◌else◌
+unfolding carried step_of refused
 unsound_bad b e s l = rw (l, unsound_refused b e s, s)
 
 -- THE STEP OF ANY BOARD IS ITS HALVES
 pub first_is : (b : Board) (e : List ℕ) → length b.chips ≡ most → carried b (first_of b e) ≡ step_of b e
-unfolding seen_plan look_of sound_board if◌then◌else◌
+unfolding seen_plan look_of sound_board
 first_is b e len =
     by_cases (sound_board b)
     (λ s. rw s (halves b s len (stirs_some (there b)) (quiet (there b)) e))
@@ -118,7 +119,7 @@ size_most b s = leb-true b.size most (both (leb 1 b.size) (leb b.size most) (bot
 
 module _ (b : Board) (place : ℕ) (l : Look) (i : l ≡ look_of b.size b.chips) where
   pub lines_unsound : not l.sound ≡ true → ◌≡◌ {A = Lines} (record { code = 35; levels = 0; driven = 0 }) (lines_of b place)
-  unfolding lines_of if◌then◌else◌
+  unfolding lines_of
   lines_unsound t = rw (sym (sound_is b l i) ∙ off l.sound t)
 
   sound_here : not l.sound ≡ false → sound_board b ≡ true
@@ -128,14 +129,14 @@ module _ (b : Board) (place : ℕ) (l : Look) (i : l ≡ look_of b.size b.chips)
   in_array t h = omega (arith, size_most b (sound_here t))
 
   pub lines_beyond : not l.sound ≡ false → b.size ≤ place / 2 → ◌≡◌ {A = Lines} (record { code = 17; levels = 0; driven = 0 }) (lines_of b place)
-  unfolding lines_of if◌then◌else◌
+  unfolding lines_of
   lines_beyond t h = rw (sound_here t, le-ltb place (b.size * 2) (omega arith))
 
   pub lines_there :
       (p : Port) (x y : ℕ) → length b.chips ≡ most → not l.sound ≡ false → place / 2 < b.size
       → p ≡ port (side (place % 2 is 1)) (get_or b.chips (place / 2) blank) → x ≡ levels_now p → y ≡ driven_of p
       → ◌≡◌ {A = Lines} (record { code = 0; levels = x; driven = y }) (lines_of b place)
-  unfolding lines_of if◌then◌else◌
+  unfolding lines_of
   lines_there p x y len t h j ex ey =
       let s = sound_here t in
       let q = j ∙ sym (port_there b s len place (omega arith)) in

@@ -1,12 +1,13 @@
 -- The tables of refusals and of control words, line by line, as the proof of the halves wants them.
 -- Assumes nothing.
+use Rattle.std.specs.Prelude.{if◌then◌else◌}
 use mathlib.Core.Path.{◌≡◌, refl}
 use mathlib.Core.Bool.{Bool, true, false, ◌&&◌, ◌||◌, not, false≢true}
 use mathlib.Core.List.{List, [], ◌∷◌}
 use Prim.Native.Nat.{ℕ, ◌*◌, ◌<◌}
 use lib.Dec.{ltb}
 use borrow.Author.Tests.{ltb-true}
-use Rattle.bits.specs.Bits.{if◌then◌else◌, ◌is◌}
+use Rattle.bits.specs.Bits.{◌is◌}
 use Rattle.bits.proofs.Logic.{by_cases}
 use Rattle.words.specs.declared.Word.{Word}
 use Rattle.words.specs.declared.Heard.{Heard}
@@ -21,7 +22,6 @@ use Rattle.board.specs.Halves.{early_of, early_at}
 -- ---- the refusals: three that need no look at a port, then the two of a control word
 pub three_first : (p q r : Bool) (l : List Line) → verdict (line p 16 ∷ line q 17 ∷ line r 18 ∷ l)
     ≡ (if verdict (line p 16 ∷ line q 17 ∷ line r 18 ∷ []) is 0 then verdict l else verdict (line p 16 ∷ line q 17 ∷ line r 18 ∷ []))
-unfolding if◌then◌else◌
 three_first true q r l = refl
 three_first false true r l = refl
 three_first false false true l = refl
@@ -60,7 +60,7 @@ plain (strobe level) = true
 plain (outside v) = true
 
 pub event_plain : (kind v : ℕ) → (kind is 3) ≡ false → plain (event_of kind v) ≡ true
-unfolding event_of if◌then◌else◌
+unfolding event_of
 event_plain kind v n =
     rw n
     (by_cases (kind is 4) (λ e. rw e) (λ e. rw e
@@ -68,5 +68,5 @@ event_plain kind v n =
     (by_cases (kind is 6) (λ e. rw e) (λ e. rw e))))))
 
 pub event_control : (kind v : ℕ) → (kind is 3) ≡ true → event_of kind v ≡ control v
-unfolding event_of if◌then◌else◌
+unfolding event_of
 event_control kind v e = rw e

@@ -1,5 +1,6 @@
 -- The chips that are there, after a change of them; the others stay.
 -- Assumes nothing.
+use Rattle.std.specs.Prelude.{if◌then◌else◌}
 use mathlib.Core.Path.{◌≡◌, refl, sym, ap, ◌∙◌}
 use mathlib.Core.Bool.{Bool, true, false}
 use mathlib.Core.List.{List, [], ◌∷◌, ◌++◌}
@@ -7,7 +8,6 @@ use Prim.Native.Nat.{ℕ, zero, suc, ◌/◌, ◌<◌}
 use native.Mathlib.Nat.{not-suc-le-zero, le_of_suc-le-suc}
 use native.Mathlib.Omega.{arith}
 use lib.ListN.{length, length-map, take, drop, take-append-drop, set, get_or}
-use Rattle.bits.specs.Bits.{if◌then◌else◌}
 use Rattle.port.specs.Rules.{served, released}
 use Rattle.chip.specs.declared.Chip.{Chip}
 use Rattle.chip.specs.Chip.{settle, on}
@@ -32,7 +32,6 @@ take_within (suc n) (x ∷ xs) (c ∷ cs) h = ap (λ (l : List Chip). x ∷ l) (
 
 -- ---- no event changes the number of chips
 choice_length : (t : Bool) (x y : List Chip) → length x ≡ length y → length (if t then x else y) ≡ length y
-unfolding if◌then◌else◌
 choice_length true x y e = e
 choice_length false x y e = refl
 

@@ -1,7 +1,6 @@
 -- The board: document 01, "What the module covers", "Sound board" and its fresh board and driven lines.
 -- Assumes nothing.
-use Rattle.std.specs.Prelude.{Bool, true, ◌&&◌, not, List, [], ◌∷◌, ◌++◌, ℕ, ◌+◌, ◌*◌, ltb, leb, get_or, take, drop, replicate}
-use Rattle.bits.specs.Bits.{if◌then◌else◌}
+use Rattle.std.specs.Prelude.{Bool, true, ◌&&◌, not, List, [], ◌∷◌, ◌++◌, ℕ, ◌+◌, ◌*◌, ltb, leb, get_or, take, drop, replicate, if◌then◌else◌}
 use Rattle.port.specs.Rules.{fresh_port, driven_of, levels_now}
 use Rattle.port.specs.declared.Port.{Port}
 use Rattle.chip.specs.declared.Chip.{Chip}

@@ -2,8 +2,8 @@
 -- decoder and the marks; and what then happens to one chip or to all. Nothing here need be believed: `halves` in proofs/ says that
 -- on a sound board the two together are `step_of`.
 -- Assumes nothing.
-use Rattle.std.specs.Prelude.{Bool, true, false, ◌&&◌, ◌||◌, not, List, [], ◌∷◌, map, ℕ, ◌-◌, ◌/◌, ◌%◌, ltb, length, get_or, set, take}
-use Rattle.bits.specs.Bits.{if◌then◌else◌, ◌is◌}
+use Rattle.std.specs.Prelude.{Bool, true, false, ◌&&◌, ◌||◌, not, List, [], ◌∷◌, map, ℕ, ◌-◌, ◌/◌, ◌%◌, ltb, length, get_or, set, take, if◌then◌else◌}
+use Rattle.bits.specs.Bits.{◌is◌}
 use Rattle.port.specs.declared.Port.{Port}
 use Rattle.chip.specs.declared.Chip.{Chip}
 use Rattle.chip.specs.Chip.{side, port, serve, release, settle}

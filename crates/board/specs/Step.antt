@@ -1,8 +1,8 @@
 -- One step: document 01, "Records" with its table and the order of refusals, "Control words", "Data, handshake, bits" and "Chain and
 -- RETI" for the whole board. An event is its four bytes: kind, place, value, 0.
 -- Assumes nothing.
-use Rattle.std.specs.Prelude.{Bool, true, false, ◌&&◌, ◌||◌, not, List, [], ◌∷◌, map, ℕ, ◌*◌, ◌/◌, ltb, length, get_or}
-use Rattle.bits.specs.Bits.{if◌then◌else◌, ◌is◌}
+use Rattle.std.specs.Prelude.{Bool, true, false, ◌&&◌, ◌||◌, not, List, [], ◌∷◌, map, ℕ, ◌*◌, ◌/◌, ltb, length, get_or, if◌then◌else◌}
+use Rattle.bits.specs.Bits.{◌is◌}
 use Rattle.port.specs.Rules.{shown_of}
 use Rattle.words.specs.Words.{heard_of, code_of}
 use Rattle.chip.specs.declared.Chip.{Chip}

@@ -1,4 +1,5 @@
 -- The rule of the digits, and how many there are. Assumes nothing.
+use Rattle.std.specs.Prelude.{if◌then◌else◌}
 use mathlib.Core.Path.{◌≡◌, ap, ◌∙◌}
 use mathlib.Core.Logic.{⊎_elim}
 use mathlib.Core.List.{[], ◌∷◌, ◌++◌}
@@ -7,12 +8,11 @@ use native.Mathlib.Nat.{not-suc-le-zero, eq-zero-or-pos}
 use native.Mathlib.Omega.{arith}
 use lib.ListN.{length, length-append}
 use borrow.Author.Tests.{lt-ltb, le-ltb}
-use Rattle.bits.specs.Bits.{if◌then◌else◌}
 use Rattle.buffers.specs.Digits.{digits_up, digits_of}
 
 -- how deep does not matter
 enough : (f g n : ℕ) → n < f → n < g → digits_up f n ≡ digits_up g n
-unfolding digits_up if◌then◌else◌
+unfolding digits_up
 enough zero g n hf hg = absurd (not-suc-le-zero hf)
 enough (suc f) zero n hf hg = absurd (not-suc-le-zero hg)
 enough (suc f) (suc g) n hf hg =
@@ -23,12 +23,12 @@ enough (suc f) (suc g) n hf hg =
 
 -- a number below ten is one digit
 pub digits_one : (n : ℕ) → n < 10 → digits_of n ≡ (48 + n) ∷ []
-unfolding digits_of digits_up if◌then◌else◌
+unfolding digits_of digits_up
 digits_one n h = rw (lt-ltb n 10 h)
 
 -- any other has the digits of n / 10, and n % 10 behind them
 pub digits_more : (n : ℕ) → 10 ≤ n → digits_of n ≡ digits_of (n / 10) ++ ((48 + n % 10) ∷ [])
-unfolding digits_of digits_up if◌then◌else◌
+unfolding digits_of digits_up
 digits_more n h = rw (le-ltb n 10 h, enough n (suc (n / 10)) (n / 10) (omega arith) (omega arith))
 
 -- the same of how many there are

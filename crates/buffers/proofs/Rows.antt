@@ -1,4 +1,5 @@
 -- The laws of a row that is written number by number. Assumes nothing.
+use Rattle.std.specs.Prelude.{if◌then◌else◌}
 use mathlib.Core.Path.{◌≡◌, sym}
 use mathlib.Core.List.{List, [], ◌∷◌, ◌++◌, append-nil}
 use Prim.Native.Nat.{ℕ, ◌+◌, ◌*◌, ◌-◌, ◌≤◌, ◌<◌}
@@ -9,7 +10,7 @@ use lib.Seq.{drop-cons}
 use mir.Val.{Fits}
 use mir.Syntax.{w64}
 use borrow.Author.Tests.{ne_eqb}
-use Rattle.bits.specs.Bits.{if◌then◌else◌, ◌is◌}
+use Rattle.bits.specs.Bits.{◌is◌}
 use Rattle.buffers.specs.Splice.{Wrote}
 use Rattle.buffers.specs.Digits.{digits_of}
 use Rattle.buffers.specs.Rows.{row_of}
@@ -18,7 +19,7 @@ use Rattle.buffers.proofs.Decimals.{length_below}
 
 -- a row is its first number, what stands behind it, and the row of the others
 pub row_first : (n : ℕ) (ns : List ℕ) → row_of (n ∷ ns) ≡ digits_of n ++ ((if length ns is 0 then 10 else 32) ∷ []) ++ row_of ns
-unfolding row_of if◌then◌else◌
+unfolding row_of
 row_first n [] = sym (append-nil _)
 row_first n (m ∷ ns) = rw (ne_eqb (length (m ∷ ns)) 0 (omega arith))
 

@@ -1,4 +1,5 @@
 -- The laws of `splice`, `if_room` and `Wrote`: what a writer's proof cites, and its callers', whatever is written. Assumes nothing.
+use Rattle.std.specs.Prelude.{if◌then◌else◌}
 use mathlib.Core.Path.{◌≡◌, refl, sym, ap, ◌∙◌}
 use mathlib.Core.List.{List, [], ◌∷◌, ◌++◌, append_assoc, append-nil}
 use Prim.Native.Nat.{ℕ, ◌+◌, ◌-◌, ◌≤◌, ◌<◌}
@@ -7,7 +8,6 @@ use native.Mathlib.Omega.{arith}
 use lib.ListN.{length, take, drop, set, length-append, length-drop, take-append-drop}
 use lib.Seq.{length-take-le, take_at, drop-append-add, drop-append-le, take-take, take-add, drop-drop, sets, sets-eq}
 use borrow.Author.Tests.{le-leb, lt-leb}
-use Rattle.bits.specs.Bits.{if◌then◌else◌}
 use Rattle.buffers.specs.Splice.{splice, if_room, Wrote}
 
 -- ---- splice
@@ -79,12 +79,12 @@ set_splice l i v h = sets_splice l i (v ∷ []) (omega arith)
 
 -- with room, the block
 pub room : (old : List ℕ) (at need : ℕ) (b : List ℕ) → at + need ≤ length old → if_room old at need b ≡ b
-unfolding if_room if◌then◌else◌
+unfolding if_room
 room old at need b h = rw (le-leb (at + need) (length old) h)
 
 -- without, nothing
 pub no_room : (old : List ℕ) (at need : ℕ) (b : List ℕ) → length old < at + need → if_room old at need b ≡ []
-unfolding if_room if◌then◌else◌
+unfolding if_room
 no_room old at need b h = rw (lt-leb (at + need) (length old) h)
 
 -- a part `&mut xs[a..]` with that room was lent to such a writer: the whole has the block

@@ -1,7 +1,6 @@
 -- A number in decimal as text: leading digit first, no leading zeros. To be believed: a number below 10 is its digit, 48 being the code of 0,
 -- and any other has the digits of n / 10 and then the digit n % 10.
-use Rattle.std.specs.Prelude.{List, [], ◌∷◌, ◌++◌, ℕ, zero, suc, ◌+◌, ◌/◌, ◌%◌, ltb}
-use Rattle.bits.specs.Bits.{if◌then◌else◌}
+use Rattle.std.specs.Prelude.{List, [], ◌∷◌, ◌++◌, ℕ, zero, suc, ◌+◌, ◌/◌, ◌%◌, ltb, if◌then◌else◌}
 
 -- the last `depth` digits of n, which are all of them for any depth above n
 unfoldable pub digits_up : ℕ → ℕ → List ℕ

@@ -1,7 +1,6 @@
 -- What a lent buffer holds at exit. To be believed: `splice` is the buffer with a block in the place of as many of its bytes, `if_room` is
 -- the block where there is room for it and otherwise nothing, and `Wrote` is a writer's whole promise.
-use Rattle.std.specs.Prelude.{◌≡◌, Bool, List, [], ◌++◌, ℕ, ◌+◌, leb, length, take, drop}
-use Rattle.bits.specs.Bits.{if◌then◌else◌}
+use Rattle.std.specs.Prelude.{◌≡◌, Bool, List, [], ◌++◌, ℕ, ◌+◌, leb, length, take, drop, if◌then◌else◌}
 
 -- `old`, with `block` in the place of as many bytes from index `at` on
 unfoldable pub splice : List ℕ → ℕ → List ℕ → List ℕ

@@ -2,8 +2,8 @@
 // less room than a writer asks for, it writes nothing.
 #![tactic(auto)]
 
-ghost use Rattle.std.specs.Prelude.{◌≡◌, [], ◌∷◌, ◌+◌, ◌*◌, ◌≤◌, length};
-ghost use Rattle.bits.specs.Bits.{if◌then◌else◌, ◌is◌};
+ghost use Rattle.std.specs.Prelude.{◌≡◌, [], ◌∷◌, ◌+◌, ◌*◌, ◌≤◌, length, if◌then◌else◌};
+ghost use Rattle.bits.specs.Bits.{◌is◌};
 ghost use Rattle.buffers.specs.Splice.{splice, has_room, if_room, Wrote};
 ghost use Rattle.buffers.specs.Digits.{digits_of};
 ghost use Rattle.buffers.specs.Rows.{row_of};

@@ -1,5 +1,6 @@
 -- Demand 1 of each exported function, from the laws of a step, a run and a table of refusals.
 -- Assumes nothing.
+use Rattle.std.specs.Prelude.{if◌then◌else◌}
 use mathlib.Core.Path.{◌≡◌, refl, sym, ap, ◌∙◌}
 use mathlib.Core.Bool.{true, false, not, or-true}
 use mathlib.Core.List.{List, [], ◌∷◌}
@@ -8,7 +9,7 @@ use native.Mathlib.Omega.{arith}
 use lib.Dec.{ltb, leb}
 use lib.ListN.{length}
 use borrow.Author.Tests.{eqb-true, eqb-false, ne_eqb, ltb-false, lt-ltb, le-ltb, leb-true, leb-false, not-true}
-use Rattle.bits.specs.Bits.{if◌then◌else◌, ◌is◌}
+use Rattle.bits.specs.Bits.{◌is◌}
 use Rattle.bits.proofs.Logic.{by_cases, both}
 use Rattle.buffers.specs.Splice.{splice}
 use Rattle.buffers.proofs.Splices.{length_splice}
@@ -31,7 +32,7 @@ use Rattle.calls.proofs.Buffers.{written_room, written_short, written_length}
 
 -- ---- pio_fresh
 pub every_fresh : EveryFresh
-unfolding fresh_of if◌then◌else◌
+unfolding fresh_of
 every_fresh size r after c = by_cases (size_ok size)
     (λ e. record { known = rw (c.code, e); refused = rw (c.code, e); made = rw (c.code, c.board, e) })
     (λ e. record { known = rw (c.code, e); refused = rw (c.code, e); made = rw (c.code, c.board, e) })
@@ -46,7 +47,7 @@ never n k = (
 
 module _ (b : Board) (event old : List ℕ) (r : ℕ) (after : Board) (buffer : List ℕ) (c : StepCall b event old r after buffer) where
   no_answer_room : leb 4 (length old) ≡ false → StepAnswered b event old r after buffer
-  unfolding lent_of bytes_of if◌then◌else◌
+  unfolding lent_of bytes_of
   no_answer_room h =
       let short = leb-false 4 (length old) h in
       let code : r ≡ 34 = c.code ∙ rw h in
@@ -65,7 +66,7 @@ module _ (b : Board) (event old : List ℕ) (r : ℕ) (after : Board) (buffer : 
     room = leb-true 4 (length old) h
 
     stepped : lent_of b event (length old) ≡ step_of b event
-    unfolding lent_of if◌then◌else◌
+    unfolding lent_of
     stepped = rw h
 
     code_is : r ≡ (step_of b event).answer.code
@@ -79,7 +80,7 @@ module _ (b : Board) (event old : List ℕ) (r : ℕ) (after : Board) (buffer : 
     buffer_length = rw buffer_is (written_length old (bytes_of (step_of b event).answer) room)
 
     other_length : (length event is 4) ≡ false → StepAnswered b event old r after buffer
-    unfolding bytes_of if◌then◌else◌
+    unfolding bytes_of
     other_length f =
         let code : r ≡ 32 = code_is ∙ rw (not_four_bytes b event f) in
         record {
@@ -92,7 +93,7 @@ module _ (b : Board) (event old : List ℕ) (r : ℕ) (after : Board) (buffer : 
         }
 
     four : length event ≡ 4 → StepAnswered b event old r after buffer
-    unfolding bytes_of if◌then◌else◌
+    unfolding bytes_of
     four f =
         let s = four_bytes b event f in
         let none = never (step_of b event).answer.code s.known in
@@ -151,7 +152,7 @@ module _ (b : Board) (events stamps old : List ℕ) where
 
   module _ (r : ℕ) (after : Board) (text : List ℕ) (count : ℕ) (c : WaveCall b events stamps old r after text count) where
     exported : (why is 0) ≡ true → WaveAnswered b events stamps old r after text count
-    unfolding exported_of page_of refusal_of if◌then◌else◌
+    unfolding exported_of page_of refusal_of
     exported h =
         let code : r ≡ 0 = c.code ∙ rw h in
         let page : text ≡ splice old 0 (wave_text b events stamps) = c.buffer ∙ rw h in
@@ -164,7 +165,7 @@ module _ (b : Board) (events stamps old : List ℕ) where
         }
 
     refused : (why is 0) ≡ false → WaveAnswered b events stamps old r after text count
-    unfolding exported_of page_of refusal_of if◌then◌else◌
+    unfolding exported_of page_of refusal_of
     refused h =
         let code : r ≡ why = c.code ∙ rw h in
         let page : text ≡ old = c.buffer ∙ rw h in
@@ -184,7 +185,7 @@ every_wave b events stamps old r after text count c =
 -- ---- pio_lines
 module _ (b : Board) (place : ℕ) (old : List ℕ) (r : ℕ) (shown : List ℕ) (c : LinesCall b place old r shown) where
   no_lines_room : leb 2 (length old) ≡ false → LinesAnswered b place old r shown
-  unfolding lent_lines if◌then◌else◌
+  unfolding lent_lines
   no_lines_room h =
       let short = leb-false 2 (length old) h in
       let code : r ≡ 34 = c.code ∙ rw h in
@@ -205,7 +206,7 @@ module _ (b : Board) (place : ℕ) (old : List ℕ) (r : ℕ) (shown : List ℕ)
     lines_written block l e = (e ∙ written_room old block (omega (arith, lines_room)), rw e (written_length old block (omega (arith, lines_room))))
 
     not_sound : sound_board b ≡ false → LinesAnswered b place old r shown
-    unfolding lent_lines lines_of if◌then◌else◌
+    unfolding lent_lines lines_of
     not_sound s =
         let code : r ≡ 35 = c.code ∙ rw (h, s) in
         let page = lines_written (0 ∷ 0 ∷ []) refl (c.buffer ∙ rw (h, s)) in
@@ -219,7 +220,7 @@ module _ (b : Board) (place : ℕ) (old : List ℕ) (r : ℕ) (shown : List ℕ)
         }
 
     no_place : sound_board b ≡ true → ltb place (b.size * 2) ≡ false → LinesAnswered b place old r shown
-    unfolding lent_lines lines_of if◌then◌else◌
+    unfolding lent_lines lines_of
     no_place s p =
         let code : r ≡ 17 = c.code ∙ rw (h, s, p) in
         let page = lines_written (0 ∷ 0 ∷ []) refl (c.buffer ∙ rw (h, s, p)) in
@@ -234,7 +235,7 @@ module _ (b : Board) (place : ℕ) (old : List ℕ) (r : ℕ) (shown : List ℕ)
         }
 
     lines_shown : sound_board b ≡ true → ltb place (b.size * 2) ≡ true → LinesAnswered b place old r shown
-    unfolding lent_lines lines_of if◌then◌else◌
+    unfolding lent_lines lines_of
     lines_shown s p =
         let code : r ≡ 0 = c.code ∙ rw (h, s, p) in
         let page = lines_written (levels_now (port_at b place) ∷ driven_of (port_at b place) ∷ []) refl (c.buffer ∙ rw (h, s, p)) in

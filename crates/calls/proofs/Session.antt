@@ -1,5 +1,6 @@
 -- Demand 3 after any calls: what every call keeps of the board and of the observer beside it.
 -- Assumes nothing.
+use Rattle.std.specs.Prelude.{if◌then◌else◌}
 use mathlib.Core.Path.{◌≡◌, refl, sym, ◌∙◌}
 use mathlib.Core.Bool.{true, false, ◌&&◌}
 use mathlib.Core.List.{List, [], ◌∷◌, ◌++◌}
@@ -8,7 +9,7 @@ use native.Mathlib.Omega.{arith}
 use lib.Dec.{ltb, leb}
 use lib.ListN.{length, take, drop}
 use borrow.Author.Tests.{eqb-true, leb-true, le-ltb}
-use Rattle.bits.specs.Bits.{if◌then◌else◌, ◌is◌}
+use Rattle.bits.specs.Bits.{◌is◌}
 use Rattle.bits.proofs.Logic.{by_cases, both}
 use Rattle.board.specs.declared.Board.{Board}
 use Rattle.board.specs.Board.{ports, size_ok, sound_board, fresh_of}
@@ -35,7 +36,7 @@ record Standing (n : ℕ) (b : Board) (k : Kept) : Type 0 where
 
 -- ---- pio_fresh
 begins : {size r : ℕ} {after : Board} → FreshCall size r after → Standing (if r is 0 then size else 0) after nothing
-unfolding fresh_of if◌then◌else◌
+unfolding fresh_of
 begins {size} {r} {after} c = by_cases (size_ok size)
     (λ e. rw (c.code, c.board, e) (record { current = blank_current size; count = blank_length size e; sound = λ l. blank_sound size e }))
     (λ e. rw (c.code, c.board, e) (record { current = blank_current 0; count = refl; sound = λ l. absurd (omega arith) }))
@@ -43,7 +44,7 @@ begins {size} {r} {after} c = by_cases (size_ok size)
 -- ---- pio_step
 module _ {n r : ℕ} {b after : Board} {k : Kept} {event old answer : List ℕ} (s : Standing n b k) (v : bytes event ≡ true) (c : StepCall b event old r after answer) where
   steps : leb 4 (length old) ≡ true → Standing n after (see_step r event answer k)
-  unfolding lent_of bytes_of if◌then◌else◌
+  unfolding lent_of bytes_of
   steps h =
       let all = every_step b event old r after answer c in
       let room = leb-true 4 (length old) h in
@@ -57,7 +58,7 @@ module _ {n r : ℕ} {b after : Board} {k : Kept} {event old answer : List ℕ} 
       })
 
   waits : leb 4 (length old) ≡ false → Standing n after (see_step r event answer k)
-  unfolding lent_of if◌then◌else◌
+  unfolding lent_of
   waits h = rw (c.code, c.board, h) s
 
   stepped : Standing n after (see_step r event answer k)
@@ -107,7 +108,6 @@ module _ {n start r count : ℕ} {b after : Board} {k : Kept} {events old answer
       (see_more es (records given) (records (drop (4 * start + length given) old)) k counts)
 
   ran : Standing n after (see_run r events answers start k)
-  unfolding if◌then◌else◌
   ran =
       let all = every_run_call b events old start r after answers count c in
       by_cases (r is 0)
@@ -117,7 +117,6 @@ module _ {n start r count : ℕ} {b after : Board} {k : Kept} {events old answer
 -- ---- pio_wave
 module _ {n r count : ℕ} {b after : Board} {k : Kept} {events stamps old text : List ℕ} (s : Standing n b k) (v : bytes events ≡ true) (c : WaveCall b events stamps old r after text count) where
   exported : Standing n after (see_wave r b events k)
-  unfolding if◌then◌else◌
   exported =
       let all = every_wave b events stamps old r after text count c in
       by_cases (r is 0)

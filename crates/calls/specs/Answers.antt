@@ -1,8 +1,8 @@
 -- Demand 1 of each exported function: every call has an answer, "bad ones are refused by number, a refused event changes nothing, nothing
 -- is left to the caller to check first". Whatever meets a function's contract (pio/specs/Calls.antt) is of this kind. `r`: the code.
 -- Assumes nothing.
-use Rattle.std.specs.Prelude.{◌≡◌, true, not, List, [], ◌∷◌, ℕ, ◌*◌, ◌≤◌, ltb, length}
-use Rattle.bits.specs.Bits.{if◌then◌else◌, ◌is◌}
+use Rattle.std.specs.Prelude.{◌≡◌, true, not, List, [], ◌∷◌, ℕ, ◌*◌, ◌≤◌, ltb, length, if◌then◌else◌}
+use Rattle.bits.specs.Bits.{◌is◌}
 use Rattle.buffers.specs.Splice.{splice}
 use Rattle.port.specs.Rules.{levels_now, driven_of}
 use Rattle.board.specs.declared.Board.{Board}

@@ -1,8 +1,8 @@
 -- A session of C or Rust: calls of the exported functions in any order, each with results that meet its contract, and beside them the
 -- observer of demand 3, who sees the events and answers in the buffers of the calls.
 -- Assumes nothing.
-use Rattle.std.specs.Prelude.{◌≡◌, true, List, ℕ, ◌*◌, ◌≤◌, take, drop}
-use Rattle.bits.specs.Bits.{if◌then◌else◌, ◌is◌}
+use Rattle.std.specs.Prelude.{◌≡◌, true, List, ℕ, ◌*◌, ◌≤◌, take, drop, if◌then◌else◌}
+use Rattle.bits.specs.Bits.{◌is◌}
 use Rattle.board.specs.declared.Board.{Board}
 use Rattle.records.specs.Records.{records}
 use Rattle.pio.specs.Calls.{FreshCall, StepCall, RunCall, WaveCall, LinesCall}

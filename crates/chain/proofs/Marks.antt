@@ -1,5 +1,6 @@
 -- The marks say of the chain what all its ports say: who asks, and who is under service.
 -- Assumes nothing.
+use Rattle.std.specs.Prelude.{if◌then◌else◌}
 use mathlib.Core.Path.{◌≡◌, refl, sym, ap, ◌∙◌}
 use mathlib.Core.Bool.{Bool, true, false, ◌&&◌, not}
 use mathlib.Core.List.{List, [], ◌∷◌, map}
@@ -10,7 +11,7 @@ use lib.Dec.{ltb, leb-suc-suc, leb-zero}
 use lib.ListN.{length, length-map, get_or, take, set, replicate}
 use lib.Seq.{set-get_or}
 use borrow.Author.Tests.{eq-eqb, ne_eqb, eqb-true, lt-ltb, le-ltb, ltb-false}
-use Rattle.bits.specs.Bits.{if◌then◌else◌, ◌is◌}
+use Rattle.bits.specs.Bits.{◌is◌}
 use Rattle.bits.proofs.Logic.{by_cases}
 use Rattle.port.specs.declared.Port.{Port}
 use Rattle.chip.specs.declared.Chip.{Chip}
@@ -34,12 +35,10 @@ up_is zero = refl
 up_is (suc k) = omega arith
 
 next_if : (t : Bool) (k : ℕ) → next (if t then suc k else 0) ≡ (if t then suc (suc k) else 0)
-unfolding if◌then◌else◌
 next_if true k = refl
 next_if false k = refl
 
 counted : (s : List Bool) → named s ≡ (if ltb (first s) (length s) then suc (first s) else 0)
-unfolding if◌then◌else◌
 counted [] = refl
 counted (true ∷ s) = rw (leb-suc-suc 0 (length s), leb-zero)
 counted (false ∷ s) = rw (leb-suc-suc (suc (first s)) (length s), counted s) (next_if (ltb (first s) (length s)) (first s))
@@ -70,7 +69,6 @@ held u v = if u then 1 else if v then 2 else 0
 met_chip : (u r v s : Bool) (n : ℕ) (f : Bool → List Bool) → n ≡ named (f true) → named (f false) ≡ 0
     → (if (met u r v s + 4 * held u v) % 4 is 0 then up n else if (met u r v s + 4 * held u v) % 4 is 3 then 0 else (met u r v s + 4 * held u v) % 4)
     ≡ named ((r && (true && not u)) ∷ (s && (true && not u && not v)) ∷ f (true && not u && not v))
-unfolding if◌then◌else◌
 met_chip true true v true n f e z = rw z
 met_chip true true v false n f e z = rw z
 met_chip true false v true n f e z = rw z
@@ -84,7 +82,6 @@ met_chip false false false false n f e z = up_is n ∙ rw e
 
 held_chip : (u r v s : Bool) (n : ℕ) (l : List Bool) → n ≡ named l
     → (if (met u r v s + 4 * held u v) / 4 % 4 is 0 then up n else (met u r v s + 4 * held u v) / 4 % 4) ≡ named (u ∷ v ∷ l)
-unfolding if◌then◌else◌
 held_chip true r v s n l e = refl
 held_chip false true true s n l e = refl
 held_chip false false true s n l e = refl
@@ -94,12 +91,12 @@ held_chip false false false false n l e = up_is n ∙ rw e
 
 -- ---- the row of chips
 no_caller : (cs : List Chip) → caller_of (marks_of zero cs) ≡ 0
-unfolding caller_of if◌then◌else◌
+unfolding caller_of
 no_caller [] = refl
 no_caller (c ∷ cs) = rw (no_caller cs)
 
 no_holder : (cs : List Chip) → holder_of (marks_of zero cs) ≡ 0
-unfolding holder_of if◌then◌else◌
+unfolding holder_of
 no_holder [] = refl
 no_holder (c ∷ cs) = rw (no_holder cs)
 
@@ -159,20 +156,20 @@ module _ (ms : Marks) (k : ℕ) (c : Chip) where
   sets_mark m e = rw e
 
   pub asks_still : (r : ℕ) → length ms ≡ most → most ≤ k → r ≡ renewed_of ms k c r
-  unfolding renewed_of if◌then◌else◌
+  unfolding renewed_of
   asks_still r l h = rw (l, le-ltb k most h)
 
   pub asks_same : (r m : ℕ) → length ms ≡ most → k < most → get_or ms k 0 ≡ m → m ≡ mark_of c → r ≡ renewed_of ms k c r
-  unfolding renewed_of if◌then◌else◌
+  unfolding renewed_of
   asks_same r m l h e i = rw (l, lt-ltb k most h, eq-eqb (get_or ms k 0) (mark_of c) (e ∙ i))
 
   pub asks_anew : (q r m : ℕ) → length ms ≡ most → k < most → (get_or ms k 0 ≡ m → ⊥) → m ≡ mark_of c → q ≡ caller_of (set ms k m) → q ≡ renewed_of ms k c r
-  unfolding renewed_of if◌then◌else◌
+  unfolding renewed_of
   asks_anew q r m l h n e i = rw (l, lt-ltb k most h, ne_eqb (get_or ms k 0) (mark_of c) (λ z. n (z ∙ sym e))) (i ∙ ap caller_of (sets_mark m e))
 
   -- it is who asks now, if it was who asked before
   pub renewed_is : (r : ℕ) → r ≡ caller_of ms → renewed_of ms k c r ≡ caller_of (marked_of ms k c)
-  unfolding renewed_of if◌then◌else◌
+  unfolding renewed_of
   renewed_is r e =
       by_cases (ltb k (length ms))
       (λ t. by_cases (get_or ms k 0 is mark_of c) (λ u. rw (t, u) (e ∙ ap caller_of (sym (set-get_or ms k 0) ∙ ap (set ms k) (eqb-true (get_or ms k 0) (mark_of c) u)))) (λ u. rw (t, u)))

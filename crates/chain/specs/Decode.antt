@@ -1,8 +1,8 @@
 -- Document 01, "Chain and RETI": the opcode decoder. "ED opens, the next fetched byte closes, and if that byte is 4D the nearest
 -- port under service is released. No other byte opens it. ED after ED closes."
 -- Assumes nothing.
-use Rattle.std.specs.Prelude.{ℕ, Bool, ◌&&◌}
-use Rattle.bits.specs.Bits.{if◌then◌else◌, ◌is◌}
+use Rattle.std.specs.Prelude.{ℕ, Bool, ◌&&◌, if◌then◌else◌}
+use Rattle.bits.specs.Bits.{◌is◌}
 use Rattle.chain.specs.declared.Decoder.{Decoder}
 
 -- nothing remembered

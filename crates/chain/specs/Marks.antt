@@ -1,8 +1,8 @@
 -- What the chain needs to know of one chip, as a number, so that who asks and who is released need no look at every port. Nothing here
 -- need be believed: the laws in proofs/Marks.antt say that the answers are those of Chain.antt.
 -- Assumes nothing.
-use Rattle.std.specs.Prelude.{ℕ, zero, suc, ◌+◌, ◌*◌, ◌/◌, ◌%◌, ◌&&◌, not, List, [], ◌∷◌, ltb, length, get_or, set, replicate}
-use Rattle.bits.specs.Bits.{if◌then◌else◌, ◌is◌}
+use Rattle.std.specs.Prelude.{ℕ, zero, suc, ◌+◌, ◌*◌, ◌/◌, ◌%◌, ◌&&◌, not, List, [], ◌∷◌, ltb, length, get_or, set, replicate, if◌then◌else◌}
+use Rattle.bits.specs.Bits.{◌is◌}
 use Rattle.chip.specs.declared.Chip.{Chip}
 use Rattle.chain.specs.Chain.{most, ready, under}
 

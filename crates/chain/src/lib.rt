@@ -2,8 +2,7 @@
 // knows of modes: a port is live, waits, is under service.
 #![tactic(auto)]
 
-ghost use Rattle.std.specs.Prelude.{◌≡◌};
-ghost use Rattle.bits.specs.Bits.{if◌then◌else◌};
+ghost use Rattle.std.specs.Prelude.{◌≡◌, if◌then◌else◌};
 ghost use Rattle.chain.specs.Decode.{next_of, reti_of};
 ghost use Rattle.chain.specs.Marks.{mark_of, unmarked_of, marked_of, caller_of, holder_of, renewed_of};
 

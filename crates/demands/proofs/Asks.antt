@@ -1,5 +1,6 @@
 -- Ask 2: whom the fourth byte names.
 -- Assumes nothing.
+use Rattle.std.specs.Prelude.{if◌then◌else◌}
 use mathlib.Core.Path.{◌≡◌, refl}
 use mathlib.Core.Bool.{Bool, true}
 use mathlib.Core.List.{List}
@@ -7,7 +8,7 @@ use Prim.Native.Nat.{ℕ, ◌+◌, ◌-◌}
 use native.Mathlib.Omega.{arith}
 use lib.ListN.{length}
 use borrow.Author.Tests.{eq-eqb, ne_eqb}
-use Rattle.bits.specs.Bits.{if◌then◌else◌, ◌is◌}
+use Rattle.bits.specs.Bits.{◌is◌}
 use Rattle.bits.proofs.Logic.{by_cases}
 use Rattle.events.specs.Events.{control, write, read, strobe, outside}
 use Rattle.chain.specs.Chain.{asker, asks}
@@ -21,7 +22,6 @@ use Rattle.demands.proofs.Demand3.{acknowledge_accepted, nearest_is, turn_is, no
 
 -- ---- an answer's fourth byte is the request that it is given
 by_either : (t : Bool) (a c p d v q r : ℕ) → (if t then answer a p v r else answer c d q r).request ≡ r
-unfolding if◌then◌else◌
 by_either t a c p d v q r = by_cases t (λ e. rw e) (λ e. rw e)
 
 carries : (b : Board) (g : Doing) (v r : ℕ) → (answered b g v r).request ≡ r
@@ -35,7 +35,7 @@ carries b (at place (strobe level)) v r = refl
 carries b (at place (outside w)) v r = refl
 
 of_the_board : (b : Board) (e : List ℕ) → sound_board b ≡ true → length e ≡ 4 → (step_of b e).answer.request ≡ request_of (step_of b e).board
-unfolding step_of accepted refused if◌then◌else◌
+unfolding step_of accepted refused
 of_the_board b e s l =
     rw (eq-eqb (length e) 4 l)
     (by_cases (refusal b e is 0) (λ h. rw h (carries b (doing_of e) _ _)) (λ h. rw (h, s)))
@@ -43,17 +43,17 @@ of_the_board b e s l =
 -- ---- the request of a sound board
 module _ (b : Board) (s : sound_board b ≡ true) where
   whom : request_of b ≡ (if words.turn (length (ports b)) b (words.under_service b) then words.nearest b + 1 else 0)
-  unfolding request_of if◌then◌else◌
+  unfolding request_of
   whom = rw (turn_is b) (by_cases (asks (ports b)) (λ t. rw (t, nearest_is b t)) (λ t. rw t))
 
   would_answer : answered b acknowledge 0 0 ≡ (if request_of b is 0 then answer 3 0 255 0 else answer 2 (request_of b - 1) (port_at b (request_of b - 1)).vector 0)
-  unfolding request_of if◌then◌else◌
+  unfolding request_of
   would_answer =
       let n : asker (ports b) + 1 - 1 ≡ asker (ports b) = omega arith in
       by_cases (asks (ports b)) (λ t. rw (t, ne_eqb (asker (ports b) + 1) 0 (λ z. omega (arith, z)), n)) (λ t. rw t)
 
   answers : (step_of b words.acknowledge).answer ≡ (if request_of b is 0 then answer 3 0 255 0 else answer 2 (request_of b - 1) (port_at b (request_of b - 1)).vector 0)
-  unfolding accepted doing_of if◌then◌else◌
+  unfolding accepted doing_of
   answers = rw (acknowledge_accepted b s, no_request b s) would_answer
 
   names : Names (request_of b) b

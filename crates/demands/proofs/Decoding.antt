@@ -1,12 +1,13 @@
 -- The observer's decoder, over the bytes fetched, and the product's, over what it remembers, say the same.
 -- Assumes nothing.
+use Rattle.std.specs.Prelude.{if◌then◌else◌}
 use mathlib.Core.Path.{◌≡◌}
 use mathlib.Core.Bool.{not, and-false}
 use mathlib.Core.List.{List, ◌∷◌}
 use Prim.Native.Nat.{ℕ, suc, ◌%◌}
 use native.Mathlib.Omega.{arith}
 use borrow.Author.Tests.{eqb-true, eqb-false, eq-eqb, ne_eqb}
-use Rattle.bits.specs.Bits.{if◌then◌else◌, ◌is◌}
+use Rattle.bits.specs.Bits.{◌is◌}
 use Rattle.bits.proofs.Logic.{by_cases}
 use Rattle.chain.specs.declared.Decoder.{Decoder}
 use Rattle.chain.specs.Decode.{next_of, reti_of}
@@ -21,11 +22,11 @@ one_more n = by_cases (n % 2 is 1)
 
 module _ (d : Decoder) (history : List ℕ) (tied : d.prefix ≡ remembered history) where
   pub reti_is : (byte : ℕ) → reti_of d byte ≡ decoded history byte
-  unfolding reti_of if◌then◌else◌
+  unfolding reti_of
   reti_is byte = rw tied (by_cases (opened history) (λ e. rw e) (λ e. rw e))
 
   pub next_is : (byte : ℕ) → (next_of d byte).prefix ≡ remembered (byte ∷ history)
-  unfolding next_of if◌then◌else◌
+  unfolding next_of
   next_is byte = rw tied
       (by_cases (byte is 0xED)
       (λ e. rw (e, one_more (prefixes history)) (by_cases (opened history) (λ o. rw o) (λ o. rw o)))

@@ -1,5 +1,6 @@
 -- Demand 1, of the step and of the run.
 -- Assumes nothing.
+use Rattle.std.specs.Prelude.{if◌then◌else◌}
 use mathlib.Core.Path.{◌≡◌, refl, sym, ap, ◌∙◌}
 use mathlib.Core.Bool.{true, false, not, true≢false}
 use mathlib.Core.List.{List}
@@ -8,7 +9,7 @@ use native.Mathlib.Omega.{arith}
 use lib.Dec.{ltb}
 use lib.ListN.{length}
 use borrow.Author.Tests.{eqb-true, eqb-false, eq-eqb, ne_eqb, ltb-true, ltb-false, not-true}
-use Rattle.bits.specs.Bits.{if◌then◌else◌, ◌is◌}
+use Rattle.bits.specs.Bits.{◌is◌}
 use Rattle.bits.proofs.Logic.{by_cases, both}
 use Rattle.buffers.specs.Splice.{splice}
 use Rattle.buffers.proofs.Splices.{length_splice}
@@ -24,7 +25,7 @@ use Rattle.demands.specs.Demands.{Answered, FourBytes, NotFourBytes, AnsweredRun
 use Rattle.demands.proofs.Refusals.{verdict_each, verdict_decides, verdict_none, none_drop, step_refused, accepted_code, refused_code, refused_each}
 
 pub not_four_bytes : NotFourBytes
-unfolding step_of if◌then◌else◌
+unfolding step_of
 not_four_bytes b e h = rw h
 
 -- ---- a step of four bytes
@@ -76,15 +77,15 @@ module _ (b : Board) (es old : List ℕ) (start : ℕ) where
       omega (arith, ltb-false (length old / 4) (start + length es / 4) room, answers_length b (records es), records_length es)
 
   pub done_fits : (ran_of b es old start).code ≡ 0 → 4 * start + length (answers_of b (records es)) ≤ length old
-  unfolding ran_of if◌then◌else◌
+  unfolding ran_of
   done_fits z = by_cases (why is 0) fits (λ h. absurd (eqb-false why 0 h (rw h at z)))
 
   ran_done : (why is 0) ≡ true → ran_of b es old start ≡ record { code = 0; records = length (records es); board = steps_of b (records es) }
-  unfolding ran_of if◌then◌else◌
+  unfolding ran_of
   ran_done h = rw (h, records_length es)
 
   buffer_done : (why is 0) ≡ true → buffer_of b es old start ≡ splice old (4 * start) (answers_of b (records es))
-  unfolding buffer_of if◌then◌else◌
+  unfolding buffer_of
   buffer_done h = rw h
 
   when_done : (why is 0) ≡ true → AnsweredRun b es old start
@@ -99,11 +100,11 @@ module _ (b : Board) (es old : List ℕ) (start : ℕ) where
       }
 
   ran_refused : (why is 0) ≡ false → ran_of b es old start ≡ record { code = why; records = 0; board = b }
-  unfolding ran_of if◌then◌else◌
+  unfolding ran_of
   ran_refused h = rw h
 
   buffer_refused : (why is 0) ≡ false → buffer_of b es old start ≡ old
-  unfolding buffer_of if◌then◌else◌
+  unfolding buffer_of
   buffer_refused h = rw h
 
   refused_known : (why is 0) ≡ false → listed why run_codes ≡ true

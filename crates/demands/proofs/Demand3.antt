@@ -1,6 +1,7 @@
 -- Demand 3. Order and length, the acknowledge and RETI are facts of every sound board and of an observer who is up to date with it;
 -- `look_run` keeps the observer so.
 -- Assumes nothing.
+use Rattle.std.specs.Prelude.{if◌then◌else◌}
 use mathlib.Core.Path.{◌≡◌, refl, sym, ap, ◌∙◌}
 use mathlib.Core.Bool.{true, ◌&&◌}
 use mathlib.Core.List.{List, [], ◌∷◌, map, drop_last}
@@ -9,7 +10,7 @@ use native.Mathlib.Omega.{arith}
 use lib.Dec.{ltb, leb}
 use lib.ListN.{length, length-map, length-take, length-replicate, take, replicate, set}
 use borrow.Author.Tests.{lt-ltb, leb-true, ne_eqb}
-use Rattle.bits.specs.Bits.{if◌then◌else◌, ◌is◌}
+use Rattle.bits.specs.Bits.{◌is◌}
 use Rattle.bits.proofs.Logic.{by_cases, both, join}
 use Rattle.port.specs.Rules.{served, fresh_port}
 use Rattle.chip.specs.Chip.{chip_fresh}
@@ -72,18 +73,17 @@ turn_is b = rw (ready_is (ports b), serving_is (ports b)) (sym (asks_is (ports b
 
 served_is : (b : Board) → adjust served (asker (ports b)) (ports b)
     ≡ (if asks (ports b) then set (ports b) (nearest b) (answering (port_at b (nearest b))) else ports b)
-unfolding if◌then◌else◌
 served_is b = by_cases (asks (ports b))
     (λ e. rw (e, nearest_is b e) (adjust_set served (nearest b) (ports b) fresh_port))
     (λ e. rw (e, asks_no (ports b) e, adjust_beyond))
 
 answer_is : (b : Board) → bytes_of (step.answered b step.acknowledge 0 0) ≡ (if asks (ports b) then 2 ∷ nearest b ∷ (port_at b (nearest b)).vector ∷ 0 ∷ [] else 3 ∷ 0 ∷ 255 ∷ 0 ∷ [])
-unfolding if◌then◌else◌ bytes_of
+unfolding bytes_of
 answer_is b = by_cases (asks (ports b)) (λ e. rw (e, nearest_is b e)) (λ e. rw e)
 
 module _ (b : Board) (h : sound_board b ≡ true) where
   pub no_request : request_of (taken b step.acknowledge) ≡ 0
-  unfolding request_of if◌then◌else◌
+  unfolding request_of
   no_request = rw (ports_acknowledged b h, quiet (ports b))
 
   module _ (k : Kept) (u : Current b k) where
@@ -91,15 +91,15 @@ module _ (b : Board) (h : sound_board b ≡ true) where
     turn_kept = rw (← u.list) (turn_is b)
 
     goes : bytes_of (step_of b acknowledge).answer ≡ (if turn (length (ports b)) b k.list then 2 ∷ nearest b ∷ (port_at b (nearest b)).vector ∷ 0 ∷ [] else 3 ∷ 0 ∷ 255 ∷ 0 ∷ [])
-    unfolding accepted doing_of if◌then◌else◌
+    unfolding accepted doing_of
     goes = rw (acknowledge_accepted b h, no_request, turn_kept) (answer_is b)
 
     serves : ports (step_of b acknowledge).board ≡ (if turn (length (ports b)) b k.list then set (ports b) (nearest b) (answering (port_at b (nearest b))) else ports b)
-    unfolding accepted doing_of if◌then◌else◌
+    unfolding accepted doing_of
     serves = rw (acknowledge_accepted b h, turn_kept) (ports_acknowledged b h ∙ served_is b)
 
     releases : (byte : ℕ) → decoded k.history byte ≡ true → under_service (step_of b (fetch byte)).board ≡ drop_last k.list
-    unfolding accepted doing_of if◌then◌else◌
+    unfolding accepted doing_of
     releases byte e =
         rw (fetch_accepted b byte h)
         (list_taken b (step.fetch byte) ∙ list_fetched (reti_of b.decoder byte) (there b) ∙ rw (reti_is b.decoder k.history u.memory byte, e, ← serving_is (ports b), u.list))
@@ -112,7 +112,7 @@ taken_length : (b : Board) (e : step.Doing) → length (ports (taken b e)) ≡ l
 taken_length b e = rw (there_taken b e) (omega (arith, flat_length (step.after b.decoder e (there b)), flat_length (there b), after_length b.decoder e (there b)))
 
 pub step_length : (b : Board) (e : List ℕ) → length (ports (step_of b e).board) ≡ length (ports b)
-unfolding step_of accepted refused if◌then◌else◌
+unfolding step_of accepted refused
 step_length b e =
     by_cases (length e is 4) (λ f. rw f
     (by_cases (refusal b e is 0) (λ h. rw h (taken_length b (doing_of e))) (λ h. rw h))) (λ f. rw f)
@@ -147,11 +147,11 @@ fresh_row_none (suc n) zero = refl
 fresh_row_none (suc n) (suc m) = rw (fresh_row_none n m)
 
 fresh_size : (n : ℕ) → (fresh_of n).code ≡ 0 → size_ok n ≡ true
-unfolding fresh_of if◌then◌else◌
+unfolding fresh_of
 fresh_size n h = by_cases (size_ok n) (λ e. e) (λ e. absurd (omega (arith, rw e at h)))
 
 fresh_board : (n : ℕ) → size_ok n ≡ true → (fresh_of n).board ≡ blank_board n
-unfolding fresh_of if◌then◌else◌
+unfolding fresh_of
 fresh_board n e = rw e
 
 pub blank_sound : (n : ℕ) → size_ok n ≡ true → sound_board (blank_board n) ≡ true
@@ -159,7 +159,6 @@ unfolding sound_board
 blank_sound n e = join (size_ok n) (sound_all (there (blank_board n))) e (fresh_row_sound n most)
 
 pub blank_current : (n : ℕ) → Current (blank_board n) nothing
-unfolding if◌then◌else◌
 blank_current n = record { list = serving_is (ports (blank_board n)) ∙ rw (fresh_row_none n most); memory = refl }
 
 pub blank_length : (n : ℕ) → size_ok n ≡ true → length (ports (blank_board n)) ≡ n * 2
@@ -194,7 +193,7 @@ from_fresh n es h a =
 
 -- a number that is neither 0 nor 1: no RETI ends, and the decoder is shut
 pub no_history : NoHistory
-unfolding accepted doing_of taken next_of reti_of if◌then◌else◌
+unfolding accepted doing_of taken next_of reti_of
 no_history b byte h l =
     let shut = ne_eqb b.decoder.prefix 0 (λ e. omega (arith, e)) in
     let other = ne_eqb b.decoder.prefix 1 (λ e. omega (arith, e)) in

@@ -1,5 +1,6 @@
 -- Lists of refusals, of any length: the verdict is the code of the first true line. And the step's answer by whether it is refused.
 -- Assumes nothing.
+use Rattle.std.specs.Prelude.{if◌then◌else◌}
 use mathlib.Core.Path.{◌≡◌, refl, sym, ap, ◌∙◌}
 use mathlib.Core.Bool.{Bool, true, false, ◌&&◌, not, true≢false, false≢true}
 use mathlib.Core.List.{List, [], ◌∷◌}
@@ -7,7 +8,7 @@ use Prim.Native.Nat.{ℕ, zero, suc, ◌≤◌}
 use native.Mathlib.Omega.{arith}
 use lib.ListN.{length, drop}
 use borrow.Author.Tests.{eqb-true, ne_eqb, not-true}
-use Rattle.bits.specs.Bits.{if◌then◌else◌, ◌is◌}
+use Rattle.bits.specs.Bits.{◌is◌}
 use Rattle.bits.proofs.Logic.{by_cases, both}
 use Rattle.events.specs.Events.{Event, control, write, read, strobe, outside}
 use Rattle.chain.specs.Chain.{asks}
@@ -43,7 +44,6 @@ lacking c l h a = by_cases (verdict l is 0)
     (λ e. not-true (verdict l is c) (verdict_each (λ n. not (n is c)) l a e))
 
 pub verdict_decides : (l : List Line) → distinct l ≡ true → (c : ℕ) → 1 ≤ c → (verdict l is c) ≡ decides c l
-unfolding if◌then◌else◌
 verdict_decides [] d c h = nonzero c h
 verdict_decides (line true o ∷ l) d c h = by_cases (o is c) (λ e. rw e) (λ e. rw e)
 verdict_decides (line false o ∷ l) d c h =
@@ -90,7 +90,6 @@ at_code b place (strobe level) v r = refl
 at_code b place (outside w) v r = refl
 
 answered_code : (b : Board) (e : Doing) (v r : ℕ) → listed (answered b e v r).code low ≡ true
-unfolding if◌then◌else◌
 answered_code b reset v r = refl
 answered_code b (fetch byte) v r = refl
 answered_code b acknowledge v r = by_cases (asks (ports b)) (λ h. rw h) (λ h. rw h)
@@ -99,11 +98,11 @@ answered_code b (at place e) v r = at_code b place e v r
 -- ---- a step of four bytes is accepted or refused
 module _ (b : Board) (e : List ℕ) (four : length e ≡ 4) where
   pub step_accepted : (refusal b e is 0) ≡ true → step_of b e ≡ accepted b e
-  unfolding step_of if◌then◌else◌
+  unfolding step_of
   step_accepted h = rw (four, h)
 
   pub step_refused : (refusal b e is 0) ≡ false → step_of b e ≡ refused b e
-  unfolding step_of if◌then◌else◌
+  unfolding step_of
   step_refused h = rw (four, h)
 
   -- with one of those codes, or with that of the first true line

@@ -1,5 +1,6 @@
 -- What the observer keeps is what is under service, and what the decoder remembers: one accepted event, one step, a session.
 -- Assumes nothing.
+use Rattle.std.specs.Prelude.{if◌then◌else◌}
 use mathlib.Core.Path.{◌≡◌, refl, ap, ap₂, ◌∙◌}
 use mathlib.Core.Bool.{Bool, true, false, not}
 use mathlib.Core.List.{List, [], ◌∷◌, ◌++◌, map, drop_last, reverse}
@@ -7,7 +8,7 @@ use Prim.Native.Nat.{ℕ, zero, suc, ◌/◌}
 use lib.Dec.{ltb}
 use lib.ListN.{length}
 use borrow.Author.Tests.{eqb-true, not-true}
-use Rattle.bits.specs.Bits.{if◌then◌else◌, ◌is◌}
+use Rattle.bits.specs.Bits.{◌is◌}
 use Rattle.bits.proofs.Logic.{by_cases}
 use Rattle.chip.specs.declared.Chip.{Chip}
 use Rattle.chip.specs.Chip.{settle}
@@ -52,7 +53,7 @@ pub list_taken : (b : Board) (e : Doing) → under_service (taken b e) ≡ farth
 list_taken b e = rw (serving_is (ports (taken b e)), there_taken b e, same_map settle (λ c. refl))
 
 pub list_fetched : (t : Bool) (cs : List Chip) → farthest (flat (map chip.fetch (if t then retired cs else cs))) ≡ (if t then drop_last (farthest (flat cs)) else farthest (flat cs))
-unfolding if◌then◌else◌ retired
+unfolding retired
 list_fetched true cs = rw (same_map chip.fetch (λ c. refl), flat_at) (farthest_released (flat cs))
 list_fetched false cs = rw (same_map chip.fetch (λ c. refl))
 
@@ -68,7 +69,7 @@ see_doing acknowledge a k = observer.acknowledged a k
 see_doing (at place e) a k = k
 
 see_doing_lem : (e a : List ℕ) (k : Kept) → ltb 15 (code a) ≡ false → see e a k ≡ see_doing (doing_of e) a k
-unfolding if◌then◌else◌ doing_of
+unfolding doing_of
 see_doing_lem e a k h =
     rw h (by_cases (kind_of e is 0) (λ i. rw i) (λ i. rw i
     (by_cases (kind_of e is 1) (λ i. rw i) (λ i. rw i
@@ -80,7 +81,7 @@ pub record Current (b : Board) (k : Kept) : Type 0 where
   pub memory : b.decoder.prefix ≡ remembered k.history
 
 look_taken : (b : Board) (d : Doing) (v r : ℕ) (k : Kept) → Current b k → Current (taken b d) (see_doing d (bytes_of (answered b d v r)) k)
-unfolding taken bytes_of if◌then◌else◌
+unfolding taken bytes_of
 look_taken b reset v r k u = record { list = list_taken b reset ∙ ap reverse (none_after_reset (there b)); memory = refl }
 look_taken b (fetch byte) v r k u = record {
   list = list_taken b (fetch byte) ∙ list_fetched (reti_of b.decoder byte) (there b) ∙ rw (reti_is b.decoder k.history u.memory byte, ← serving_is (ports b), u.list);
@@ -99,7 +100,6 @@ look_taken b (at place e) v r k u = record {
 
 -- ---- a step: refused events count for nothing
 refused_seen : (e a : List ℕ) (k : Kept) → ltb 15 (code a) ≡ true → k ≡ see e a k
-unfolding if◌then◌else◌
 refused_seen e a k h = rw h
 
 module _ (b : Board) (e : List ℕ) (k : Kept) (u : Current b k) where

@@ -1,5 +1,6 @@
 -- Who asks, by the nearest ready port and the nearest port under service, and the bits that each event leaves under service.
 -- Assumes nothing.
+use Rattle.std.specs.Prelude.{if◌then◌else◌}
 use mathlib.Core.Path.{◌≡◌, refl, sym, ◌∙◌}
 use mathlib.Core.Bool.{Bool, true, false, ◌&&◌, not}
 use mathlib.Core.List.{List, [], ◌∷◌, ◌++◌, map, drop_last}
@@ -8,7 +9,6 @@ use native.Mathlib.Omega.{arith}
 use lib.Dec.{ltb, leb-suc-suc, leb-zero}
 use lib.ListN.{length, length-map, set}
 use borrow.Author.Tests.{ltb-true, lt-ltb, le-ltb}
-use Rattle.bits.specs.Bits.{if◌then◌else◌}
 use Rattle.bits.proofs.Logic.{by_cases}
 use Rattle.port.specs.Rules.{served, released}
 use Rattle.port.specs.declared.Port.{Port}
@@ -29,7 +29,6 @@ shut_off (p ∷ ps) = go (ready p) (shut_off ps)
 
 -- the nearest ready port asks if it is nearer than all under service; otherwise nobody does
 pub asker_is : (ps : List Port) → asker ps ≡ (if ltb (first (map ready ps)) (first (map under ps)) then first (map ready ps) else length ps)
-unfolding if◌then◌else◌
 asker_is [] = refl
 asker_is (p ∷ ps) = go (under p) (ready p) (asker_is ps)
   where
@@ -46,23 +45,19 @@ asker_is (p ∷ ps) = go (under p) (ready p) (asker_is ps)
     go false false h = rw (leb-suc-suc, h) (up (ltb (first (map ready ps)) (first (map under ps))) (first (map ready ps)) (length ps))
 
 pub asks_is : (ps : List Port) → asks ps ≡ ltb (first (map ready ps)) (first (map under ps))
-unfolding if◌then◌else◌
 asks_is ps = rw (asker_is ps) (go (first (map ready ps)) (first (map under ps)) (length ps) (rw length-map at (first_short (map under ps))))
   where
     go : (r u n : ℕ) → u ≤ n → ltb (if ltb r u then r else n) n ≡ ltb r u
     go r u n h = by_cases (ltb r u) (λ e. rw e (lt-ltb r n (omega (arith, ltb-true r u e)))) (λ e. rw e (le-ltb n n (omega arith)))
 
 pub asks_yes : (ps : List Port) → asks ps ≡ true → (asker ps ≡ first (map ready ps)) × (first (map ready ps) < first (map under ps))
-unfolding if◌then◌else◌
 asks_yes ps h = let e = sym (asks_is ps) ∙ h in (asker_is ps ∙ rw e, ltb-true (first (map ready ps)) (first (map under ps)) e)
 
 pub asks_no : (ps : List Port) → asks ps ≡ false → asker ps ≡ length ps
-unfolding if◌then◌else◌
 asks_no ps h = let e = sym (asks_is ps) ∙ h in asker_is ps ∙ rw e
 
 -- ---- the places under service, farthest first, after an acknowledge and after a RETI
 pub farthest_served : (ps : List Port) → farthest (adjust served (asker ps) ps) ≡ (if asks ps then farthest ps ++ (asker ps ∷ []) else farthest ps)
-unfolding if◌then◌else◌
 farthest_served ps = by_cases (asks ps)
     (λ e. rw (e, (asks_yes ps e).0, bits_set under served true (λ p. refl)) (farthest_set (map under ps) (first (map ready ps)) (asks_yes ps e).1))
     (λ e. rw (e, asks_no ps e, adjust_beyond))

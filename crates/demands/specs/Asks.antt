@@ -1,7 +1,7 @@
 -- What document 02's asks promise of the whole board, in its order. Each statement is part of what `kept_promises` ensures.
 -- Assumes nothing.
-use Rattle.std.specs.Prelude.{◌≡◌, true, List, ℕ, ◌+◌, ◌-◌, length}
-use Rattle.bits.specs.Bits.{if◌then◌else◌, ◌is◌}
+use Rattle.std.specs.Prelude.{◌≡◌, true, List, ℕ, ◌+◌, ◌-◌, length, if◌then◌else◌}
+use Rattle.bits.specs.Bits.{◌is◌}
 use Rattle.board.specs.declared.Board.{Board}
 use Rattle.board.specs.Board.{ports, port_at, sound_board}
 use Rattle.board.specs.Step.{answer, step_of}

@@ -1,9 +1,9 @@
 -- What the owner asks: the three demands, of the product's own step and run, in quotes as the owner or document 01 says them.
 -- Words.antt and Observer.antt have the words and the observer. Each statement is part of what `kept_promises` ensures.
 -- Assumes nothing.
-use Rattle.std.specs.Prelude.{◌≡◌, true, false, ℕ, ◌*◌, ◌≤◌, length, set}
+use Rattle.std.specs.Prelude.{◌≡◌, true, false, ℕ, ◌*◌, ◌≤◌, length, set, if◌then◌else◌}
 use mathlib.Core.List.{List, [], ◌∷◌, drop_last}
-use Rattle.bits.specs.Bits.{if◌then◌else◌, ◌is◌}
+use Rattle.bits.specs.Bits.{◌is◌}
 use Rattle.buffers.specs.Splice.{splice}
 use Rattle.board.specs.declared.Board.{Board}
 use Rattle.board.specs.Board.{ports, port_at, sound_board, fresh_of, request_of}

@@ -1,9 +1,9 @@
 -- Demand 3's list, as an observer keeps it who sees the four bytes of each event and the four of its answer, and nothing of the board.
 -- No word here is the product's: the observer has its own decoder, over the bytes that it has seen fetched.
 -- Assumes nothing.
-use Rattle.std.specs.Prelude.{Bool, ◌&&◌, ℕ, suc, ◌%◌, ltb, get_or}
+use Rattle.std.specs.Prelude.{Bool, ◌&&◌, ℕ, suc, ◌%◌, ltb, get_or, if◌then◌else◌}
 use mathlib.Core.List.{List, [], ◌∷◌, ◌++◌, drop_last}
-use Rattle.bits.specs.Bits.{if◌then◌else◌, ◌is◌}
+use Rattle.bits.specs.Bits.{◌is◌}
 
 -- the bytes fetched since the last acknowledge or reset, the latest first; and the list, with its last entry last
 pub record Kept : Type 0 where

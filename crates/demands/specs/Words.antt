@@ -2,8 +2,8 @@
 -- that wait, what the observer has kept after a session. Who waits, who is enabled and who is under service is read off the ports here,
 -- by no definition of the chain's.
 -- Assumes nothing.
-use Rattle.std.specs.Prelude.{Bool, true, false, ◌&&◌, ◌||◌, not, List, [], ◌∷◌, ◌++◌, ℕ, suc, ◌<◌, ltb}
-use Rattle.bits.specs.Bits.{if◌then◌else◌, ◌is◌}
+use Rattle.std.specs.Prelude.{Bool, true, false, ◌&&◌, ◌||◌, not, List, [], ◌∷◌, ◌++◌, ℕ, suc, ◌<◌, ltb, if◌then◌else◌}
+use Rattle.bits.specs.Bits.{◌is◌}
 use Rattle.port.specs.Fields.{waiting_at, service_at}
 use Rattle.port.specs.declared.Port.{Port}
 use Rattle.board.specs.declared.Board.{Board}

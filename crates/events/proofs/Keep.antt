@@ -1,10 +1,11 @@
 -- A sound chip stays sound at an event of one place.
 -- Assumes nothing.
+use Rattle.std.specs.Prelude.{if◌then◌else◌}
 use mathlib.Core.Path.{◌≡◌, refl}
 use mathlib.Core.Bool.{Bool, true, false}
 use Prim.Native.Nat.{ℕ}
 use lib.Dec.{ltb}
-use Rattle.bits.specs.Bits.{if◌then◌else◌, ◌is◌}
+use Rattle.bits.specs.Bits.{◌is◌}
 use Rattle.words.specs.declared.Word.{Word}
 use Rattle.words.specs.declared.Heard.{Heard}
 use Rattle.words.specs.declared.Heard.TheVariants.{Said, NoForm, NotOnB}
@@ -62,7 +63,7 @@ step_is s (outside v) c h = refl
 
 -- the event of four bytes has a byte for its value
 pub event_byte : (kind v : ℕ) → ltb v 256 ≡ true → byte_in (event_of kind v) ≡ true
-unfolding event_of if◌then◌else◌
+unfolding event_of
 event_byte kind v h =
     by_cases (kind is 3) (λ e. rw e h) (λ e. rw e
     (by_cases (kind is 4) (λ e. rw e h) (λ e. rw e

@@ -1,8 +1,8 @@
 -- What events of one place leave alone: service; and words the input register too.
 -- Assumes nothing.
+use Rattle.std.specs.Prelude.{if◌then◌else◌}
 use mathlib.Core.Path.{◌≡◌, refl}
 use mathlib.Core.Bool.{Bool, true, false}
-use Rattle.bits.specs.Bits.{if◌then◌else◌}
 use Rattle.port.specs.declared.Port.{Port}
 use Rattle.words.specs.Words.{obeyed}
 use Rattle.words.specs.declared.Word.{Word}
@@ -16,7 +16,6 @@ use Rattle.events.specs.Events.{Event, control, write, read, strobe, outside, he
 
 -- a word touches neither service nor the input register
 pub obeyed_leaves : (linked : Bool) (p : Port) (w : Word) → ((obeyed linked p w).service ≡ p.service) × ((obeyed linked p w).input ≡ p.input)
-unfolding if◌then◌else◌
 obeyed_leaves linked p (Vector v) = (refl, refl)
 obeyed_leaves linked p (Mode m) = (refl, refl)
 obeyed_leaves linked p (Interrupt on all high true) = (refl, refl)

@@ -1,6 +1,7 @@
 -- What each way out of the events' functions gives, of any values: `search` finds the premises among what the calls ensure and
 -- what the branches tell.
 -- Assumes nothing.
+use Rattle.std.specs.Prelude.{if◌then◌else◌}
 use mathlib.Core.Path.{◌≡◌, refl}
 use mathlib.Core.Bool.{Bool, true, false, ◌&&◌, ◌||◌, beq}
 use mathlib.Core.List.{[], ◌∷◌}
@@ -9,7 +10,7 @@ use Prim.Native.Nat.{ℕ}
 use native.Mathlib.Omega.{arith}
 use types.Run.{OneOf}
 use denote.Enum.Declared.{tag_of}
-use Rattle.bits.specs.Bits.{if◌then◌else◌, ◌is◌}
+use Rattle.bits.specs.Bits.{◌is◌}
 use Rattle.port.specs.Fields.{ready_at}
 use Rattle.port.specs.Rules.{written, accessed, strobed, shown_of, lines_now}
 use Rattle.port.specs.declared.Port.{Port}
@@ -87,29 +88,29 @@ went_on s v c d r p h w i e a q t = rw (t, q, ← heard_is s v c p h i e, a)
 
 -- ---- one event, by its kind
 pub act_control : (s : Side) (k v : ℕ) (c : Chip) (r : Acted) → (k is 3) ≡ true → r ≡ controlled_of s v c → r ≡ act_of s (event_of k v) v c
-unfolding event_of if◌then◌else◌
+unfolding event_of
 act_control s k v c r e h = rw e h
 
 pub act_write :
     (s : Side) (k v : ℕ) (c d r : Chip) → (k is 3) ≡ false → (k is 4) ≡ true → d ≡ changed s (write v) c → r ≡ settle d
     → acted r 0 v ≡ act_of s (event_of k v) v c
-unfolding event_of if◌then◌else◌ act_of step
+unfolding event_of act_of step
 act_write s k v c d r e f h i = rw (e, f, i, h)
 
 pub act_read :
     (s : Side) (k v n : ℕ) (c d r : Chip) (p : Port) → (k is 3) ≡ false → (k is 4) ≡ false → (k is 5) ≡ true → p ≡ port s c
     → d ≡ changed s read c → r ≡ settle d → n ≡ shown_of p → acted r 1 n ≡ act_of s (event_of k v) v c
-unfolding event_of if◌then◌else◌ act_of step
+unfolding event_of act_of step
 act_read s k v n c d r p e f g j h i l = rw (e, f, g, i, h, l, j)
 
 pub act_strobe :
     (s : Side) (k v : ℕ) (c d r : Chip) → (k is 3) ≡ false → (k is 4) ≡ false → (k is 5) ≡ false → (k is 6) ≡ true
     → d ≡ changed s (strobe (v is 1)) c → r ≡ settle d → acted r 0 v ≡ act_of s (event_of k v) v c
-unfolding event_of if◌then◌else◌ act_of step
+unfolding event_of act_of step
 act_strobe s k v c d r e f g j h i = rw (e, f, g, j, i, h)
 
 pub act_outside :
     (s : Side) (k v : ℕ) (c d r : Chip) → (k is 3) ≡ false → (k is 4) ≡ false → (k is 5) ≡ false → (k is 6) ≡ false
     → d ≡ changed s (outside v) c → r ≡ settle d → acted r 0 v ≡ act_of s (event_of k v) v c
-unfolding event_of if◌then◌else◌ act_of step
+unfolding event_of act_of step
 act_outside s k v c d r e f g j h i = rw (e, f, g, j, i, h)

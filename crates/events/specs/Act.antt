@@ -1,8 +1,8 @@
 -- One event of kinds 3 to 7 at one chip, with the settling after it and the answer's code and value: what the step does to the
 -- one chip that such an event concerns.
 -- Assumes nothing.
-use Rattle.std.specs.Prelude.{ℕ}
-use Rattle.bits.specs.Bits.{if◌then◌else◌, ◌is◌}
+use Rattle.std.specs.Prelude.{ℕ, if◌then◌else◌}
+use Rattle.bits.specs.Bits.{◌is◌}
 use Rattle.port.specs.Rules.{shown_of}
 use Rattle.words.specs.Words.{code_of}
 use Rattle.words.specs.declared.Heard.{Heard}

@@ -1,7 +1,8 @@
 -- The lines of the changed values, one value after the other.
 -- Assumes nothing.
+use Rattle.std.specs.Prelude.{if◌then◌else◌}
 use Rattle.std.proofs.Common.{◌≡◌, ℕ, suc, ◌+◌, ◌*◌, ◌<◌, ◌≤◌, true, false, List, [], ◌∷◌, ◌++◌, length, get_or, drop, refl, add-one, arith, length-append, drop_of_length-le, drop-cons, eq-eqb, ne_eqb}
-use Rattle.bits.specs.Bits.{if◌then◌else◌, ◌is◌}
+use Rattle.bits.specs.Bits.{◌is◌}
 use Rattle.bits.proofs.Tests.{if_on, if_off}
 use Rattle.buffers.specs.Splice.{if_room, Wrote}
 use Rattle.buffers.proofs.Splices.{wrote_all, Writing, writing_part, writing_done}

@@ -1,13 +1,14 @@
 -- The nine values, chip by chip.
 -- Assumes nothing.
+use Rattle.std.specs.Prelude.{if◌then◌else◌}
 use Rattle.std.proofs.Common.{◌≡◌, ℕ, zero, suc, not, ◌&&◌, ltb, List, [], ◌∷◌, length, get_or, refl, arith, lt-ltb}
-use Rattle.bits.specs.Bits.{if◌then◌else◌, ◌is◌}
+use Rattle.bits.specs.Bits.{◌is◌}
 use Rattle.chip.specs.declared.Chip.{Chip}
 use Rattle.frames.specs.Values.{flag, values_of}
 
 four : (size : ℕ) (request : ℕ) (c d e f : Chip) → values_of size (c ∷ d ∷ e ∷ f ∷ []) request
     ≡ (flag (not (request is 0)) ∷ flag (ltb 0 size && c.a.ready) ∷ flag (ltb 0 size && c.b.ready) ∷ flag (ltb 1 size && d.a.ready) ∷ flag (ltb 1 size && d.b.ready) ∷ flag (ltb 2 size && e.a.ready) ∷ flag (ltb 2 size && e.b.ready) ∷ flag (ltb 3 size && f.a.ready) ∷ flag (ltb 3 size && f.b.ready) ∷ [])
-unfolding values_of if◌then◌else◌
+unfolding values_of
 four zero request c d e f = refl
 four (suc zero) request c d e f = refl
 four (suc (suc zero)) request c d e f = refl

@@ -1,8 +1,8 @@
 -- Document 02, Ask 1: the text of a recording, Value Change Dump (IEEE 1364). "Lines, each ended by a newline".
 -- Assumes nothing.
-use Rattle.std.specs.Prelude.{ℕ, suc, List, [], ◌∷◌, ◌++◌, length}
+use Rattle.std.specs.Prelude.{ℕ, suc, List, [], ◌∷◌, ◌++◌, length, if◌then◌else◌}
 use Prim.Native.String.{String}
-use Rattle.bits.specs.Bits.{if◌then◌else◌, ◌is◌}
+use Rattle.bits.specs.Bits.{◌is◌}
 use Rattle.buffers.specs.Text.{ascii}
 use Rattle.buffers.specs.Digits.{digits_of}
 

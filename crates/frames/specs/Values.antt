@@ -1,7 +1,7 @@
 -- Document 02, Ask 1: the nine lines of a recording and their values.
 -- Assumes nothing.
-use Rattle.std.specs.Prelude.{ℕ, zero, suc, Bool, not, List, [], ◌∷◌, take}
-use Rattle.bits.specs.Bits.{if◌then◌else◌, ◌is◌}
+use Rattle.std.specs.Prelude.{ℕ, zero, suc, Bool, not, List, [], ◌∷◌, take, if◌then◌else◌}
+use Rattle.bits.specs.Bits.{◌is◌}
 use Rattle.port.specs.declared.Port.{Port}
 use Rattle.chip.specs.declared.Chip.{Chip}
 use Rattle.chain.specs.Chain.{flat}

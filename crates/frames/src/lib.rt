@@ -1,8 +1,8 @@
 // What one time of a recording shows, and how long it is to the next. Document 02, Ask 1.
 #![tactic(auto)]
 
-ghost use Rattle.std.specs.Prelude.{◌≡◌, ◌+◌, ◌*◌, ◌<◌, ◌≤◌, ◌&&◌, length, nat_lt};
-ghost use Rattle.bits.specs.Bits.{if◌then◌else◌, ◌is◌};
+ghost use Rattle.std.specs.Prelude.{◌≡◌, ◌+◌, ◌*◌, ◌<◌, ◌≤◌, ◌&&◌, length, nat_lt, if◌then◌else◌};
+ghost use Rattle.bits.specs.Bits.{◌is◌};
 ghost use Rattle.buffers.specs.Splice.{if_room, Wrote};
 ghost use Rattle.frames.specs.Stamps.{stamp_at, gap_from};
 ghost use Rattle.frames.specs.Values.{flag, values_of};

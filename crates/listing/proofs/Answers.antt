@@ -1,7 +1,7 @@
 -- A piece of the input: its whole records are run, and the buffer of answers then holds what the listing's text is made of.
 -- Assumes nothing.
+use Rattle.std.specs.Prelude.{if◌then◌else◌}
 use Rattle.std.proofs.Common.{◌≡◌, ℕ, suc, ◌+◌, ◌*◌, ◌/◌, ◌%◌, ◌≤◌, true, List, [], ◌∷◌, length, get_or, take, drop, refl, ap, ◌∙◌, arith, length-take-le, take_at, w8, Fits, le-ltb, lt-ltb, eq-eqb}
-use Rattle.bits.specs.Bits.{if◌then◌else◌}
 use Rattle.buffers.specs.Splice.{splice, if_room, Wrote}
 use Rattle.buffers.proofs.Splices.{wrote_all, wrote_then, wrote_length}
 use Rattle.board.specs.declared.Board.{Board}
@@ -39,7 +39,7 @@ stays_sound b (k ∷ p ∷ v ∷ z ∷ rest) bytes s =
     stays_sound (step_of b e).board rest (λ i. bytes (suc (suc (suc (suc i))))) (step_sound b e (lt-ltb v 256 (omega (arith, bytes 2))) s)
 
 pub fresh_board : sound_board (fresh_of 4).board ≡ true
-unfolding fresh_of sound_board if◌then◌else◌
+unfolding fresh_of sound_board
 fresh_board = rw fresh_sound
 
 module _ (b : Board) (es old : List ℕ) (sound : sound_board b ≡ true) (fits : length es ≤ length old) where
@@ -60,7 +60,7 @@ module _ (b : Board) (es old : List ℕ) (sound : sound_board b ≡ true) (fits 
       )
 
   pub after : (ran_of b whole old 0).board ≡ steps_of b (records es)
-  unfolding ran_of if◌then◌else◌
+  unfolding ran_of
   after = rw (accepted, records_whole es)
 
   abbrev answers : List ℕ
@@ -71,7 +71,7 @@ module _ (b : Board) (es old : List ℕ) (sound : sound_board b ≡ true) (fits 
 
   -- and the buffer's first bytes are the answers
   pub answered : take (4 * (length es / 4)) (buffer_of b whole old 0) ≡ answers
-  unfolding buffer_of if◌then◌else◌ splice
+  unfolding buffer_of splice
   answered = rw (accepted, records_whole es) (take_at answers (drop (0 + length answers) old) (4 * (length es / 4)) answers_long)
 
   -- the lines and the tail behind them are the listing's text

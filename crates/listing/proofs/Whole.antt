@@ -1,6 +1,6 @@
 -- A listing made piece by piece, as the program makes it, is the listing of the whole input. Assumes nothing.
+use Rattle.std.specs.Prelude.{if◌then◌else◌}
 use Rattle.std.proofs.Common.{◌≡◌, ℕ, ◌+◌, ◌/◌, ◌%◌, ◌^◌, ◌<◌, List, ◌++◌, length, refl, append_assoc, append-nil}
-use Rattle.bits.specs.Bits.{if◌then◌else◌}
 use Rattle.board.specs.declared.Board.{Board}
 use Rattle.board.specs.Step.{step_of}
 use Rattle.records.specs.Records.{records, bytes_of, steps_of, answers_of}
@@ -15,7 +15,7 @@ line : ℕ → Board → List ℕ → List ℕ
 line number b e = listing_of number (bytes_of (step_of b e).answer)
 
 paged : text.Paged next line text_of (λ b es. steps_of b (records es))
-unfolding next line text_of listing_of tail_of answers_of bytes_of steps_of records if◌then◌else◌
+unfolding next line text_of listing_of tail_of answers_of bytes_of steps_of records
 paged =
     record {
       no_text = λ b number. refl;

@@ -1,11 +1,12 @@
 -- Places beyond the size are neither read nor changed.
 -- Assumes nothing.
+use Rattle.std.specs.Prelude.{if◌then◌else◌}
 use mathlib.Core.Path.{◌≡◌, refl, sym, ap, ap₂, ◌∙◌}
 use mathlib.Core.Bool.{◌&&◌}
 use mathlib.Core.List.{List, [], ◌∷◌, ◌++◌}
 use Prim.Native.Nat.{ℕ}
 use lib.ListN.{length}
-use Rattle.bits.specs.Bits.{if◌then◌else◌, ◌is◌}
+use Rattle.bits.specs.Bits.{◌is◌}
 use Rattle.bits.proofs.Logic.{by_cases}
 use Rattle.chip.specs.declared.Chip.{Chip}
 use Rattle.events.specs.Events.{Event, control, write, read, strobe, outside}
@@ -24,7 +25,7 @@ unfolding taken
 taken_beyond b e = drop_within b.size (after b.decoder e (there b)) b.chips (after_length b.decoder e (there b))
 
 step_beyond : (b : Board) (e : List ℕ) → beyond (step_of b e).board ≡ beyond b
-unfolding step_of accepted refused if◌then◌else◌
+unfolding step_of accepted refused
 step_beyond b e =
     by_cases (length e is 4) (λ f. rw f
     (by_cases (refusal b e is 0) (λ h. rw h (taken_beyond b (doing_of e))) (λ h. rw h))) (λ f. rw f)
@@ -77,7 +78,7 @@ module _ (b c : Board) (h : Alike b c) where
   }
 
 step_alike : (b c : Board) → Alike b c → (e : List ℕ) → ((step_of b e).answer ≡ (step_of c e).answer) × Alike (step_of b e).board (step_of c e).board
-unfolding step_of accepted refused if◌then◌else◌
+unfolding step_of accepted refused
 step_alike b c h e =
     rw (same_refusal b c h e)
     (by_cases (length e is 4) (λ f. rw f

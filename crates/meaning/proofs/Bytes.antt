@@ -1,5 +1,6 @@
 -- What every event keeps of the numbers of a board: the size, the number of chips, that each is a byte, and what the decoder remembers.
 -- Assumes nothing.
+use Rattle.std.specs.Prelude.{if◌then◌else◌}
 use mathlib.Core.Path.{◌≡◌, refl, ap}
 use mathlib.Core.Bool.{Bool, true, false, ◌&&◌, not}
 use mathlib.Core.List.{List, [], ◌∷◌}
@@ -8,7 +9,7 @@ use native.Mathlib.Omega.{arith}
 use lib.Dec.{ltb}
 use lib.ListN.{length, set, drop, length-append, take-append-drop}
 use borrow.Author.Tests.{ltb-true, lt-ltb}
-use Rattle.bits.specs.Bits.{if◌then◌else◌, ◌is◌}
+use Rattle.bits.specs.Bits.{◌is◌}
 use Rattle.bits.proofs.Logic.{by_cases, both, join}
 use Rattle.port.specs.Fields.{select_at, mask_at}
 use Rattle.port.specs.Rules.{settled, cleared}
@@ -62,7 +63,6 @@ at_register : (p : Port) (k : ℕ) {v : ℕ} → v < 256 → BytePort p → Byte
 at_register p k b h = put k (registers (p ∷ [])) b h
 
 choice : (t : Bool) (x y : ℕ) → x < 256 → y < 256 → (if t then x else y) < 256
-unfolding if◌then◌else◌
 choice true x y h k = h
 choice false x y h k = k
 
@@ -84,7 +84,6 @@ word_byte NoForm = true
 word_byte NotOnB = true
 
 heard_byte : (awaiting : ℕ) (onB : Bool) (v : ℕ) → ltb v 256 ≡ true → word_byte (heard_of awaiting onB v) ≡ true
-unfolding if◌then◌else◌
 heard_byte awaiting onB v h =
     by_cases (awaiting is 1) (λ e. rw e h) (λ e. rw e
     (by_cases (awaiting is 2) (λ e. rw e h) (λ e. rw e
@@ -95,7 +94,6 @@ heard_byte awaiting onB v h =
     (by_cases (v % 16 is 3) (λ e. rw e) (λ e. rw e)))))))))))
 
 obeyed_bytes : (linked : Bool) (p : Port) (w : Word) → word_byte (Said w) ≡ true → BytePort p → BytePort (obeyed linked p w)
-unfolding if◌then◌else◌
 obeyed_bytes linked p (Vector v) b h = at_register p 4 (ltb-true v 256 b) h
 obeyed_bytes linked p (Mode m) b h =
     put 7 (m ∷ p.out ∷ p.input ∷ p.lines ∷ p.vector ∷ p.select ∷ p.mask ∷ p.awaiting ∷ [])
@@ -167,7 +165,6 @@ in_a_row (c ∷ cs) h = before c.a (c.b ∷ flat cs) h.0.0 (before c.b (flat cs)
 
 -- ---- the decoder: below 2, and so below any bound that it was below
 one_or_none : (t : Bool) → (if t then 1 else 0) < 2
-unfolding if◌then◌else◌
 one_or_none true = omega arith
 one_or_none false = omega arith
 
@@ -182,7 +179,7 @@ prefix_after n l d acknowledge h = omega arith
 prefix_after n l d (at place e) h = h
 
 step_prefix : (n : ℕ) → 1 < n → (b : Board) (e : List ℕ) → b.decoder.prefix < n → (step_of b e).board.decoder.prefix < n
-unfolding step_of accepted refused taken if◌then◌else◌
+unfolding step_of accepted refused taken
 step_prefix n l b e h =
     by_cases (length e is 4) (λ f. rw f
     (by_cases (refusal b e is 0) (λ g. rw g (prefix_after n l b.decoder (doing_of e) h)) (λ g. rw g h))) (λ f. rw f h)
@@ -198,7 +195,7 @@ taken_size b e =
     (refl, omega (arith, length-append x (drop b.size b.chips), after_length b.decoder e (there b), length-append (there b) (drop b.size b.chips), ap length (take-append-drop b.size b.chips)))
 
 pub keeps_size : KeepsSize
-unfolding step_of accepted refused if◌then◌else◌
+unfolding step_of accepted refused
 keeps_size b e =
     by_cases (length e is 4) (λ f. rw f
     (by_cases (refusal b e is 0) (λ g. rw g (taken_size b (doing_of e))) (λ g. rw g (refl, refl)))) (λ f. rw f (refl, refl))

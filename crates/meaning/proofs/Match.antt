@@ -1,5 +1,6 @@
 -- The match in plain words, line by line.
 -- Assumes nothing.
+use Rattle.std.specs.Prelude.{if◌then◌else◌}
 use mathlib.Core.Path.{◌≡◌, refl, sym, subst, ap, ◌∙◌}
 use mathlib.Core.Bool.{Bool, true, false, ◌&&◌, ◌||◌, not, beq, false≢true}
 use mathlib.Core.Logic.{◌↔◌, ◌⊎◌, inl, inr, ⊎_elim}
@@ -7,7 +8,7 @@ use Prim.Native.Nat.{ℕ, zero, suc, ◌<◌}
 use native.Mathlib.Nat.{not-suc-le-zero, le_of_suc-le-suc, eq-or-lt_of_le, le_refl}
 use native.Mathlib.Omega.{arith}
 use borrow.Author.Tests.{not-true}
-use Rattle.bits.specs.Bits.{if◌then◌else◌, bit, some, every}
+use Rattle.bits.specs.Bits.{bit, some, every}
 use Rattle.bits.specs.Lines.{counts, active, match_of}
 use Rattle.bits.proofs.Logic.{both, join, beq_is, beq_self}
 use Rattle.meaning.specs.Match.{Counts, OrMatch, AndMatch}
@@ -54,7 +55,7 @@ unless true b = (λ e p. e, λ h. h refl)
 unless false b = (λ e p. absurd (false≢true p), λ h. refl)
 
 pub or_match : OrMatch
-unfolding match_of if◌then◌else◌
+unfolding match_of
 or_match select mask lines high = (
   λ e.
       let r = (some_is 8 (λ k. counts select mask k && active lines high k)).0 e in
@@ -65,7 +66,7 @@ or_match select mask lines high = (
 )
 
 pub and_match : AndMatch
-unfolding match_of if◌then◌else◌
+unfolding match_of
 and_match select mask lines high = (
   λ e.
       let b = both (some 8 (counts select mask)) (every 8 (λ k. not (counts select mask k) || active lines high k)) e in

@@ -1,5 +1,6 @@
 -- Mode 2, sentence by sentence: the whole chip before the settling, and then what settling adds to it.
 -- Assumes nothing.
+use Rattle.std.specs.Prelude.{if◌then◌else◌}
 use mathlib.Core.Path.{◌≡◌, refl, sym, ap, ap₂, ◌∙◌, subst}
 use mathlib.Core.Bool.{Bool, true, false, ◌&&◌, ◌||◌, not, beq, or-true, or-false, and-true, and-false, true≢false, false≢true}
 use mathlib.Core.List.{List, [], ◌∷◌}
@@ -7,7 +8,7 @@ use Prim.Native.Nat.{ℕ, ◌*◌, ◌<◌}
 use native.Mathlib.Omega.{arith}
 use lib.Dec.{leb, leb-zero, leb-suc-suc}
 use borrow.Author.Tests.{eqb-true, lt-ltb, leb-true}
-use Rattle.bits.specs.Bits.{if◌then◌else◌, ◌is◌}
+use Rattle.bits.specs.Bits.{◌is◌}
 use Rattle.bits.specs.Lines.{levels_of}
 use Rattle.bits.proofs.Logic.{both}
 use Rattle.bits.proofs.BitLaws.{byte_is}
@@ -46,7 +47,6 @@ coupled_is : (c : Chip) → two_way c ≡ true → coupled c.a c.b ≡ c
 coupled_is c e = ap (λ (m : ℕ). record { a = mode_at m c.a; b = c.b }) (sym (eqb-true c.a.mode 2 e))
 
 flip : (t : Bool) (x y : ℕ) → (if not t then x else y) ≡ (if t then y else x)
-unfolding if◌then◌else◌
 flip true x y = refl
 flip false x y = refl
 
@@ -55,7 +55,6 @@ changed_to : (p : Port) {i j : ℕ} {v w m n : Bool} → i ≡ j → v ≡ w →
 changed_to p e f g = rw (e, f, g)
 
 never : (f : Bool) (x y : ℕ) → (if f && false then x else y) ≡ y
-unfolding if◌then◌else◌
 never f x y = rw (and-false f)
 
 settles : (a b : Port) → settle (coupled a b) ≡ record { a = input_at (if b.strobe then a.input else a.lines) (matched_at false (mode_at 2 a)); b = matched_at false b }
@@ -93,7 +92,6 @@ stays c A (outside v) t = settled_input (changed A (outside v) c) t
 stays c B (outside v) t = settled_input (changed B (outside v) c) t
 
 linked_ready : (p : Port) (w : Word) → (obeyed true p w).ready ≡ p.ready
-unfolding if◌then◌else◌
 linked_ready p (Vector v) = refl
 linked_ready p (Mode m) = and-true p.ready
 linked_ready p (Interrupt on all high true) = refl
@@ -104,7 +102,7 @@ linked_ready p (Mask v) = refl
 
 -- ---- the lines that A drives
 none_driven : (x : ℕ) → levels_of x 0 ≡ 0
-unfolding levels_of if◌then◌else◌
+unfolding levels_of
 none_driven x = simp and-false
 
 all_driven : (x : ℕ) → x < 256 → levels_of x 255 ≡ x
@@ -112,7 +110,6 @@ unfolding levels_of
 all_driven x h = simp and-true (sym (byte_is x h))
 
 driven : (high : Bool) (x : ℕ) → x < 256 → levels_of x (if high then 0 else 255) ≡ (if high then 0 else x)
-unfolding if◌then◌else◌
 driven true x h = none_driven x
 driven false x h = all_driven x h
 
@@ -137,7 +134,7 @@ module _ (a b : Port) (h : sound_chip (coupled a b) ≡ true) where
   rest p q e f g i l = follow p q e f ∙ ap (λ (x : ℕ). coupled (input_at x p) q) (rw (g, i, l) (ap (λ (c : Chip). c.a.input) at_rest))
 
   in_mode2 : InMode2 (coupled a b)
-  unfolding step if◌then◌else◌
+  unfolding step
   in_mode2 = record {
     a_write = λ v.
         rest (written false v (mode_at 2 a)) b refl refl refl refl refl
@@ -214,7 +211,7 @@ nearest_is b c cs h e t f =
     one_chip b 1 (strobe true) h ∙ ap (adjust (step B (strobe true)) 0) e ∙ ap (λ (d : Chip). d ∷ cs) ((mode2 c one t).b_rise f)
 
 rise_accepted : (b : Board) → sound_board b ≡ true → (step_of b (6 ∷ 1 ∷ 1 ∷ 0 ∷ [])).board ≡ taken b (at 1 (strobe true))
-unfolding refusal accepted doing_of event_of if◌then◌else◌
+unfolding refusal accepted doing_of event_of
 rise_accepted b h =
     let s = both (leb 1 b.size) (leb b.size most) (parts b h).0 in
     ap (λ (r : Stepped). r.board) (step_accepted b (6 ∷ 1 ∷ 1 ∷ 0 ∷ []) refl (rw (h, lt-ltb 1 (b.size * 2) (omega (arith, leb-true 1 b.size s.0)))))
@@ -224,7 +221,7 @@ b_asks : (c : Chip) (cs : List Chip) → c.b.live ≡ true → ready c.a ≡ fal
 b_asks c cs l r u v = rw (r, u, v, l)
 
 pub b_answers : BAnswers
-unfolding accepted doing_of if◌then◌else◌
+unfolding accepted doing_of
 b_answers b c cs h e t f l r u v =
     let sound = taken_sound b (at 1 (strobe true)) refl h in
     rw (

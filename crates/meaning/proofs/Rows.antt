@@ -1,10 +1,11 @@
 -- What every event keeps of a chip, it keeps of each chip of a board.
 -- Assumes nothing.
+use Rattle.std.specs.Prelude.{if◌then◌else◌}
 use mathlib.Core.Bool.{Bool, true, false}
 use mathlib.Core.List.{List, [], ◌∷◌, ◌++◌, map}
 use Prim.Native.Nat.{ℕ, zero, suc, ◌/◌}
 use lib.ListN.{length, take, drop}
-use Rattle.bits.specs.Bits.{if◌then◌else◌, ◌is◌}
+use Rattle.bits.specs.Bits.{◌is◌}
 use Rattle.bits.proofs.Logic.{by_cases}
 use Rattle.port.specs.Rules.{served, released}
 use Rattle.chip.specs.declared.Chip.{Chip}
@@ -49,7 +50,6 @@ module _ (X : Chip → Type 0) where
   each_adjust f k (suc i) (c ∷ cs) h = (h.0, each_adjust f k i cs h.1)
 
   each_choice : (t : Bool) (x y : List Chip) → Each X x → Each X y → Each X (if t then x else y)
-  unfolding if◌then◌else◌
   each_choice true x y h k = h
   each_choice false x y h k = k
 
@@ -91,13 +91,13 @@ module _ (X : Chip → Type 0) where
 
     -- the chips that are there, and all chips of the board
     pub there_keeps : (b : Board) (e : List ℕ) → KeptAt X (doing_of e) → Each X (there b) → Each X (there (step_of b e).board)
-    unfolding step_of accepted refused if◌then◌else◌
+    unfolding step_of accepted refused
     there_keeps b e k h =
         by_cases (length e is 4) (λ f. rw f
         (by_cases (refusal b e is 0) (λ g. rw (g, there_taken b (doing_of e)) (after_keeps b.decoder (doing_of e) k (there b) h)) (λ g. rw g h))) (λ f. rw f h)
 
     pub all_keeps : (b : Board) (e : List ℕ) → KeptAt X (doing_of e) → Each X b.chips → Each X (step_of b e).board.chips
-    unfolding step_of accepted refused taken if◌then◌else◌
+    unfolding step_of accepted refused taken
     all_keeps b e k h =
         by_cases (length e is 4) (λ f. rw f
         (by_cases (refusal b e is 0)

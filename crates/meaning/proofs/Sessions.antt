@@ -1,5 +1,6 @@
 -- What holds of a board after any session.
 -- Assumes nothing.
+use Rattle.std.specs.Prelude.{if◌then◌else◌}
 use mathlib.Core.Path.{◌≡◌, refl}
 use mathlib.Core.Bool.{Bool, true, false, ◌&&◌, not, beq, and-false}
 use mathlib.Core.List.{List, [], ◌∷◌}
@@ -8,7 +9,7 @@ use native.Mathlib.Omega.{arith}
 use lib.Dec.{leb}
 use lib.ListN.{take, replicate}
 use borrow.Author.Tests.{lt-ltb, leb-true}
-use Rattle.bits.specs.Bits.{if◌then◌else◌, ◌is◌}
+use Rattle.bits.specs.Bits.{◌is◌}
 use Rattle.bits.proofs.Logic.{by_cases, both}
 use Rattle.words.specs.declared.Word.TheVariants.{Vector, Mode, Interrupt, Enable, Select, Mask}
 use Rattle.words.specs.declared.Heard.{Heard}
@@ -39,7 +40,6 @@ same_mode : (c : Chip) → ReadyLow c → c.b.mode ≡ 3 → two_way c ≡ false
 same_mode c l e t = uncoupled c.b.ready (two_way c) (two_way c) (l.1 e) t
 
 word_low : (s : Side) (h : Heard) (c : Chip) → ReadyLow c → ReadyLow (obey_heard s h c)
-unfolding if◌then◌else◌
 word_low A (Said (Vector v)) c l = (l.0, same_mode c l)
 word_low A (Said (Mode m)) c l = (λ e. and-false c.a.ready, λ e t. uncoupled c.b.ready (two_way c) (m is 2) (l.1 e) t)
 word_low A (Said (Interrupt on all high true)) c l = (l.0, same_mode c l)
@@ -115,17 +115,17 @@ blank_bytes n h = rw (lt-ltb n 256 h)
 
 module _ (n : ℕ) where
   fresh_bytes : bytes (numbers (fresh_of n).board) ≡ true
-  unfolding fresh_of if◌then◌else◌
+  unfolding fresh_of
   fresh_bytes = by_cases (size_ok n)
       (λ e. rw e (blank_bytes n (omega (arith, leb-true n most (both (leb 1 n) (leb n most) e).1))))
       (λ e. rw e)
 
   fresh_low : Each ReadyLow (there (fresh_of n).board)
-  unfolding fresh_of if◌then◌else◌
+  unfolding fresh_of
   fresh_low = by_cases (size_ok n) (λ e. rw e (row_low n most)) (λ e. rw e tt)
 
   fresh_prefix : (fresh_of n).board.decoder.prefix < 2
-  unfolding fresh_of if◌then◌else◌
+  unfolding fresh_of
   fresh_prefix = by_cases (size_ok n) (λ e. rw e (omega arith)) (λ e. rw e (omega arith))
 
   fresh_kept : (fresh_of n).code ≡ 0 → InSession (fresh_of n).board

@@ -1,8 +1,7 @@
 -- Mode 2 of A, sentence by sentence: what document 01, "Control words" and "Data, handshake, bits", says of it, as equations of the
 -- whole chip. `step` is an event at one port with the settling after it (events/specs/Act).
 -- Assumes nothing.
-use Rattle.std.specs.Prelude.{◌≡◌, true, false, not, List, [], ◌∷◌, ℕ, ◌/◌, ◌<◌}
-use Rattle.bits.specs.Bits.{if◌then◌else◌}
+use Rattle.std.specs.Prelude.{◌≡◌, true, false, not, List, [], ◌∷◌, ℕ, ◌/◌, ◌<◌, if◌then◌else◌}
 use Rattle.port.specs.Fields.{out_at, input_at, lines_at, strobe_at, ready_at, waiting_at, matched_at}
 use Rattle.port.specs.Rules.{shown_of, driven_of, levels_now}
 use Rattle.port.specs.declared.Port.{Port}

@@ -1,6 +1,6 @@
 -- The panel's text made piece by piece, as the program makes it, is that of the whole input. Assumes nothing.
+use Rattle.std.specs.Prelude.{if◌then◌else◌}
 use Rattle.std.proofs.Common.{◌≡◌, ℕ, ◌+◌, ◌/◌, ◌%◌, ◌^◌, ◌<◌, List, ◌++◌, length, refl, append_assoc}
-use Rattle.bits.specs.Bits.{if◌then◌else◌}
 use Rattle.board.specs.declared.Board.{Board}
 use Rattle.board.specs.Step.{step_of}
 use Rattle.records.specs.Records.{records, steps_of}
@@ -15,7 +15,7 @@ page : ℕ → Board → List ℕ → List ℕ
 page number b e = page_of number (step_of b e)
 
 paged : text.Paged next page text_of (λ b es. steps_of b (records es))
-unfolding next page text_of pages_of tail_of steps_of records if◌then◌else◌
+unfolding next page text_of pages_of tail_of steps_of records
 paged =
     record {
       no_text = λ b number. refl;

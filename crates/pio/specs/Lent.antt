@@ -1,8 +1,7 @@
 -- What the lent functions do that the functions on values do not: they write into a lent buffer, and where it is too short they
 -- refuse with 34, before all else, with nothing moved and nothing written.
 -- Assumes nothing.
-use Rattle.std.specs.Prelude.{List, [], ◌∷◌, ℕ, leb, length}
-use Rattle.bits.specs.Bits.{if◌then◌else◌}
+use Rattle.std.specs.Prelude.{List, [], ◌∷◌, ℕ, leb, length, if◌then◌else◌}
 use Rattle.buffers.specs.Splice.{splice, if_room}
 use Rattle.board.specs.declared.Board.{Board}
 use Rattle.board.specs.declared.Stepped.{Stepped}

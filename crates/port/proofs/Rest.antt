@@ -1,10 +1,11 @@
 -- Settling one port: it brings any port to rest, and leaves a port at rest as it is.
 -- Assumes nothing.
+use Rattle.std.specs.Prelude.{if◌then◌else◌}
 use mathlib.Core.Path.{◌≡◌, refl, sym}
 use mathlib.Core.Bool.{Bool, true, false, ◌&&◌, ◌||◌, not, beq}
 use Prim.Native.Nat.{ℕ}
 use borrow.Author.Tests.{eq-eqb, eqb-true}
-use Rattle.bits.specs.Bits.{if◌then◌else◌, ◌is◌}
+use Rattle.bits.specs.Bits.{◌is◌}
 use Rattle.port.specs.Fields.{input_at, waiting_at, matched_at}
 use Rattle.port.specs.Rules.{match_now, settled}
 use Rattle.port.specs.Sound.{rests_of}
@@ -12,7 +13,6 @@ use Rattle.port.specs.declared.Port.{Port}
 use Rattle.bits.proofs.Logic.{both, join, beq_is, beq_self}
 
 follows_lines : (f : Bool) (x y : ℕ) → (not f || ((if f then x else y) is x)) ≡ true
-unfolding if◌then◌else◌
 follows_lines true x y = eq-eqb x x refl
 follows_lines false x y = refl
 
@@ -23,7 +23,6 @@ settled_rests f w p =
     (beq_self (match_now p && w)) (follows_lines f p.lines p.input)
 
 same_input : (f : Bool) (x y : ℕ) → (not f || (y is x)) ≡ true → (if f then x else y) ≡ y
-unfolding if◌then◌else◌
 same_input true x y e = sym (eqb-true y x e)
 same_input false x y e = refl
 

@@ -2,9 +2,9 @@
 -- other port of the chip comes as a flag, which chip/specs and events/specs give: `off`, the port's own handshake is off; `acts`, the
 -- rise of this strobe ends a handshake; `follows`, the input register follows the lines; `watched`, the port's own match is on.
 -- Assumes nothing.
-use Rattle.std.specs.Prelude.{ℕ, ◌-◌, Bool, true, false, ◌&&◌, ◌||◌, not}
+use Rattle.std.specs.Prelude.{ℕ, ◌-◌, Bool, true, false, ◌&&◌, ◌||◌, not, if◌then◌else◌}
 use Rattle.bits.specs.Lines.{match_of, mixed_of, levels_of}
-use Rattle.bits.specs.Bits.{if◌then◌else◌, ◌is◌}
+use Rattle.bits.specs.Bits.{◌is◌}
 use Rattle.port.specs.Fields.{mode_at, out_at, input_at, lines_at, matched_at, strobe_at, ready_at, mask_at, asked_at, live_at, waiting_at, service_at, awaiting_at}
 use Rattle.port.specs.declared.Port.{Port}
 

@@ -1,5 +1,6 @@
 -- How long a text can be: 39 bytes for each record, and the header.
 -- Assumes nothing.
+use Rattle.std.specs.Prelude.{if◌then◌else◌}
 use mathlib.Core.Path.{◌≡◌, refl}
 use mathlib.Core.Bool.{Bool, true, false, not}
 use mathlib.Core.List.{List, [], ◌∷◌, ◌++◌}
@@ -8,7 +9,7 @@ use native.Mathlib.Omega.{arith}
 use lib.ListN.{length, length-append, take}
 use lib.Dec.{ltb}
 use borrow.Author.Tests.{eqb-true, eqb-false, ltb-true, ltb-false}
-use Rattle.bits.specs.Bits.{if◌then◌else◌, ◌is◌}
+use Rattle.bits.specs.Bits.{◌is◌}
 use Rattle.bits.proofs.Logic.{by_cases}
 use Rattle.buffers.specs.Digits.{digits_of}
 use Rattle.buffers.proofs.Decimals.{length_below}
@@ -30,7 +31,7 @@ use Rattle.recording.proofs.Shots.{shows, hides, unseen, first_is}
 
 -- ---- one time
 line_bound : (same : Bool) (character value : ℕ) → length (if same then [] else value_line character value) ≤ 3
-unfolding if◌then◌else◌ value_line
+unfolding value_line
 line_bound true character value = omega arith
 line_bound false character value = omega arith
 
@@ -56,7 +57,7 @@ nine size chips request = rw (eight 8 (flat (take size chips)))
     eight (suc n) (p ∷ ps) = rw (eight n ps)
 
 pub frame_bound : (time : ℕ) (shown values : List ℕ) → time < 10 ^ 10 → length values ≡ 9 → length (later_frame time shown values) ≤ 39
-unfolding later_frame time_line if◌then◌else◌
+unfolding later_frame time_line
 frame_bound time shown values t v =
     let text = changed_lines identifier shown values in
     by_cases (length text is 0)
@@ -138,7 +139,7 @@ late b events stamps room h q =
     absurd (omega (arith, h, ltb-true room long tests.1.1, wave_bound b events stamps counted stamped))
 
 pub never_forty : (b : Board) (events stamps : List ℕ) (room : ℕ) → 257 + 39 * (length events / 4) ≤ room → (exported_of b events stamps room).code ≡ 40 → ⊥
-unfolding exported_of if◌then◌else◌
+unfolding exported_of
 never_forty b events stamps room h e =
     by_cases (wave_refusal b events stamps room is 0)
     (λ z. absurd (omega (arith, rw z at e)))

@@ -1,9 +1,9 @@
 -- The definition of the text at work: the readings of Ask 1 in document 02, worked out on fresh boards. Assumes nothing.
+use Rattle.std.specs.Prelude.{if◌then◌else◌}
 use mathlib.Core.Path.{◌≡◌, refl}
 use mathlib.Core.List.{List, [], ◌∷◌, ◌++◌, map}
 use Prim.Native.Nat.{ℕ, ◌/◌, ◌%◌}
 use Prim.Native.String.{String}
-use Rattle.bits.specs.Bits.{if◌then◌else◌}
 use Rattle.bits.specs.Lines.{match_of, mixed_of, levels_of}
 use Rattle.buffers.specs.Text.{ascii}
 use Rattle.buffers.specs.Digits.{digits_up, digits_of}
@@ -59,5 +59,5 @@ cases =
     ∷ []
 
 examples_hold : map given cases ≡ map wanted cases
-unfolding if◌then◌else◌ match_of mixed_of levels_of match_now sound_chip event_of acknowledged retired next_of reti_of sound_board fresh_of request_of refusal doing_of taken accepted refused step_of records stamps_of times_of values_of header time_line value_line all_lines changed_lines first_frame later_frame digits_of digits_up shots_of merged later_frames frames wave_text
+unfolding match_of mixed_of levels_of match_now sound_chip event_of acknowledged retired next_of reti_of sound_board fresh_of request_of refusal doing_of taken accepted refused step_of records stamps_of times_of values_of header time_line value_line all_lines changed_lines first_frame later_frame digits_of digits_up shots_of merged later_frames frames wave_text
 examples_hold = refl

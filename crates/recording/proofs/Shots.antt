@@ -1,5 +1,6 @@
 -- The shots of a recording, one record after the other, and the first of them.
 -- Assumes nothing.
+use Rattle.std.specs.Prelude.{if◌then◌else◌}
 use mathlib.Core.Path.{◌≡◌, refl}
 use mathlib.Core.Bool.{Bool, true, false, not}
 use mathlib.Core.List.{List, [], ◌∷◌}
@@ -7,7 +8,7 @@ use Prim.Native.Nat.{ℕ, zero, suc, ◌+◌}
 use native.Mathlib.Omega.{arith}
 use lib.ListN.{length, replicate, take}
 use borrow.Author.Tests.{eq-eqb, ne_eqb}
-use Rattle.bits.specs.Bits.{if◌then◌else◌, ◌is◌}
+use Rattle.bits.specs.Bits.{◌is◌}
 use Rattle.bits.proofs.Logic.{by_cases}
 use Rattle.bits.proofs.Tests.{if_on, if_off}
 use Rattle.port.specs.declared.Port.{Port}
@@ -52,7 +53,6 @@ abbrev pub unseen : List ℕ
 unseen = replicate 9 2
 
 flag_new : (on : Bool) → (flag on is 2) ≡ false
-unfolding if◌then◌else◌
 flag_new true = refl
 flag_new false = refl
 

@@ -1,5 +1,6 @@
 -- The ways out of `refusal` and of `export`.
 -- Assumes nothing.
+use Rattle.std.specs.Prelude.{if◌then◌else◌}
 use mathlib.Core.Path.{◌≡◌, refl, sym, ◌∙◌}
 use mathlib.Core.Bool.{Bool, true, false, not}
 use mathlib.Core.List.{List, [], ◌∷◌, ◌++◌}
@@ -8,7 +9,7 @@ use native.Mathlib.Omega.{arith}
 use lib.Dec.{ltb}
 use lib.ListN.{length}
 use borrow.Author.Tests.{lt-ltb, eq-eqb, ne_eqb, le-ltb, ltb-true}
-use Rattle.bits.specs.Bits.{if◌then◌else◌, ◌is◌}
+use Rattle.bits.specs.Bits.{◌is◌}
 use Rattle.buffers.specs.Splice.{splice}
 use Rattle.board.specs.declared.Board.{Board}
 use Rattle.board.specs.declared.Look.{Look}
@@ -79,7 +80,7 @@ module _ (b : Board) (es ss old : List ℕ) (l : Look) (i : l ≡ look_of b.size
   Out r out = (r ≡ exported_of b es ss (length old)) × (out ≡ page_of b es ss old)
 
   refused : (code : ℕ) → (code ≡ 0 → ⊥) → code ≡ wave_refusal b es ss (length old) → Out (record { code = code; length = 0; board = b }) old
-  unfolding exported_of page_of if◌then◌else◌
+  unfolding exported_of page_of
   refused code z e = (rw (← e, ne_eqb code 0 z), rw (← e, ne_eqb code 0 z))
 
   pub early_refused : (code : ℕ) → code ≡ refusal_of l.sound (length es) (length ss) 257 (length old) → (code ≡ 0 → ⊥) → Out (record { code = code; length = 0; board = b }) old
@@ -98,7 +99,7 @@ module _ (b : Board) (es ss old : List ℕ) (l : Look) (i : l ≡ look_of b.size
 
     pub exported : text ≤ length old → (after : Board) (n : ℕ) (out : List ℕ) → after ≡ steps_of b (records es) → n ≡ text → (n ≤ length old → out ≡ splice old 0 (wave_text b es ss))
         → Out (record { code = 0; length = n; board = after }) out
-    unfolding exported_of page_of if◌then◌else◌
+    unfolding exported_of page_of
     exported h after n out e f w =
         let none = (none_refused (sound_board b) (length es) (length ss) text (length old) quiet g.1.0 g.1.1.0 g.1.1.1.0 h).0 in
         (rw (← none, e, f), rw (← none, w (omega (arith, h, f))))

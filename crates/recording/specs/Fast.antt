@@ -1,8 +1,7 @@
 -- One record of a recording as the code does it, by the step's two halves. Nothing here need be believed: the laws in proofs/ say that
 -- it is the step.
 -- Assumes nothing.
-use Rattle.std.specs.Prelude.{false, ◌||◌, List, ℕ, get_or, set}
-use Rattle.bits.specs.Bits.{if◌then◌else◌}
+use Rattle.std.specs.Prelude.{false, ◌||◌, List, ℕ, get_or, set, if◌then◌else◌}
 use Rattle.board.specs.declared.Plan.{Plan}
 use Rattle.board.specs.declared.Changed.{Changed}
 use Rattle.board.specs.declared.Swept.{Swept}

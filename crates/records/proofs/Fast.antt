@@ -1,5 +1,6 @@
 -- The run's short ways: each is a turn of the run, and keeps what the locals keep.
 -- Assumes nothing.
+use Rattle.std.specs.Prelude.{if◌then◌else◌}
 use mathlib.Core.Path.{◌≡◌, refl, ap, ◌∙◌}
 use mathlib.Core.Bool.{Bool, true, false, ◌&&◌, not}
 use mathlib.Core.List.{List, [], ◌∷◌}
@@ -10,7 +11,7 @@ use lib.Dec.{leb, ltb}
 use lib.ListN.{length, take, drop, get_or, length-take, length-drop}
 use lib.Seq.{get_or-take, get_or-drop}
 use borrow.Author.Tests.{lt-ltb, le-ltb, ltb-true, leb-true, eqb-true}
-use Rattle.bits.specs.Bits.{if◌then◌else◌, ◌is◌}
+use Rattle.bits.specs.Bits.{◌is◌}
 use Rattle.bits.proofs.Logic.{both}
 use Rattle.chip.specs.declared.Chip.{Chip}
 use Rattle.chain.specs.declared.Decoder.{Decoder}
@@ -98,7 +99,7 @@ passed d marks value request =
 
 passing_plan : (size : ℕ) (d : Decoder) (marks : Marks) (due : Bool) (request : ℕ) (e : List ℕ) → 1 ≤ size → length e ≡ 4 → kind_of e ≡ 1 → place_of e ≡ 0 → last_of e ≡ 0
     → due ≡ false → reti_of d (value_of e) ≡ false → passed (next_of d (value_of e)) marks (value_of e) request ≡ plan_of size d marks due request e
-unfolding plan_of early_of accepted_plan fetch_plan if◌then◌else◌
+unfolding plan_of early_of accepted_plan fetch_plan
 passing_plan size d marks due request e s l k p z q r = rw (l, k, p, z, q, r, lt-ltb 0 (size * 2) (omega (arith, s)))
 
 module _ {es old : List ℕ} {start : ℕ} {b₀ : Board} {n : ℕ} {out : List ℕ} {b : Board} {marks : Marks} {request : ℕ} {due : Bool} {i : ℕ}

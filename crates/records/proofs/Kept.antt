@@ -1,6 +1,7 @@
 -- What the run's locals keep beside the board: that it is sound, its marks, its request, and whether a fetch could change it. Each of
 -- the three ways that a record goes is the step, and keeps all of it.
 -- Assumes nothing.
+use Rattle.std.specs.Prelude.{if◌then◌else◌}
 use mathlib.Core.Path.{◌≡◌, refl, sym, ap, ap₂, subst, ◌∙◌}
 use mathlib.Core.Bool.{Bool, true, false, ◌&&◌, ◌||◌, not, true≢false}
 use mathlib.Core.List.{List, [], ◌∷◌, map}
@@ -8,7 +9,7 @@ use Prim.Native.Nat.{ℕ, zero, suc}
 use lib.Dec.{ltb}
 use lib.ListN.{length, length-map, length-set, get_or, set, take}
 use lib.Seq.{take-set-lt, length_front}
-use Rattle.bits.specs.Bits.{if◌then◌else◌, ◌is◌}
+use Rattle.bits.specs.Bits.{◌is◌}
 use Rattle.bits.proofs.Logic.{by_cases}
 use Rattle.bits.proofs.Tests.{if_on}
 use Rattle.chip.specs.declared.Chip.{Chip}
@@ -42,7 +43,6 @@ pub record Kept (b : Board) (marks : Marks) (request : ℕ) (due : Bool) : Type 
 -- ---- what the second half leaves, whatever the plan
 -- a fetch changes nothing of a chip that was just reset or fetched
 sweep_still : (kind : ℕ) (c : Chip) → chip.fetch (sweep_of kind c) ≡ sweep_of kind c
-unfolding if◌then◌else◌
 sweep_still kind c = by_cases (kind is 0) (λ e. rw e) (λ e. rw e (fetch_twice c))
   where
     again : (live asked t : Bool) → (live || (asked && t) || (asked && t)) ≡ (live || (asked && t))
@@ -59,7 +59,6 @@ map_still f h [] = refl
 map_still f h (c ∷ cs) = rw (h c, map_still f h cs)
 
 free_length : (cs : List Chip) (w : Plan) → length (freed_of cs w) ≡ length cs
-unfolding if◌then◌else◌
 free_length cs w = by_cases w.one (λ t. rw t (length-set cs w.chip _)) (λ t. rw t)
 
 map_set : (f : Chip → Chip) (l : List Chip) (k : ℕ) (c : Chip) → map f (set l k c) ≡ set (map f l) k (f c)

@@ -1,6 +1,7 @@
 -- The run's short way for an event of kinds 3 to 7: its chip is changed as the chip's event says, and the marks, the request and
 -- `due` follow.
 -- Assumes nothing.
+use Rattle.std.specs.Prelude.{if◌then◌else◌}
 use mathlib.Core.Path.{◌≡◌, refl, sym, ap, ◌∙◌}
 use mathlib.Core.Bool.{Bool, true, ◌||◌}
 use mathlib.Core.List.{List, [], ◌∷◌}
@@ -10,7 +11,7 @@ use native.Mathlib.Omega.{arith}
 use lib.ListN.{length, take, drop, get_or, set, length-take}
 use lib.Seq.{get_or-take, get_or-set_same}
 use borrow.Author.Tests.{eq-eqb, ne_eqb}
-use Rattle.bits.specs.Bits.{if◌then◌else◌, ◌is◌}
+use Rattle.bits.specs.Bits.{◌is◌}
 use Rattle.bits.proofs.Logic.{both}
 use Rattle.bits.proofs.Tests.{if_on}
 use Rattle.chip.specs.declared.Chip.{Chip}
@@ -53,7 +54,7 @@ chip_sound b k s row h =
 -- ---- an event of kinds 3 to 7 that no early refusal stops
 placed_plan : (size : ℕ) (d : Decoder) (marks : Marks) (due : Bool) (request : ℕ) (e : List ℕ) → length e ≡ 4 → 3 ≤ kind_of e → early_at size e ≡ 0
     → single d marks (kind_of e) 0 (place_of e) (value_of e) request ≡ plan_of size d marks due request e
-unfolding plan_of accepted_plan if◌then◌else◌
+unfolding plan_of accepted_plan
 placed_plan size d marks due request e l lo z =
     rw (l, z, ne_eqb (kind_of e) 1 (λ n. omega (arith, n, lo)), ne_eqb (kind_of e) 0 (λ n. omega (arith, n, lo)), ne_eqb (kind_of e) 2 (λ n. omega (arith, n, lo)))
 
@@ -74,47 +75,47 @@ module _ (es : List ℕ) (i : ℕ) where
   k = place / 2 % most
 
   -- the event's chip in a row
-  abbrev pub chip_at_lem : List Chip → Chip
-  chip_at_lem cs = get_or cs k blank
+  abbrev pub chip_of : List Chip → Chip
+  chip_of cs = get_or cs k blank
 
 -- ---- what the ways of the five kinds give: the row of chips with the event's chip changed, the answer's code and its value
 pub record Acts (es : List ℕ) (i : ℕ) (old new : List Chip) (code shown : ℕ) : Type 0 where
   pub done : Acted
-  pub event : sound_chip (chip_at_lem es i old) ≡ true → done ≡ act_of (side_of (place es i)) (event_of (kind es i) (value es i)) (value es i) (chip_at_lem es i old)
+  pub event : sound_chip (chip_of es i old) ≡ true → done ≡ act_of (side_of (place es i)) (event_of (kind es i) (value es i)) (value es i) (chip_of es i old)
   pub row : new ≡ set old (k es i) done.chip
   pub coded : code ≡ done.code
   pub told : shown ≡ done.value
 
 module _ {es : List ℕ} {i : ℕ} {old new : List Chip} {code shown : ℕ} (a : Acted) where
-  pub by_kind : (n : ℕ) → kind es i ≡ n → (sound_chip (chip_at_lem es i old) ≡ true → a ≡ act_of (side_of (place es i)) (event_of n (value es i)) (value es i) (chip_at_lem es i old))
+  pub by_kind : (n : ℕ) → kind es i ≡ n → (sound_chip (chip_of es i old) ≡ true → a ≡ act_of (side_of (place es i)) (event_of n (value es i)) (value es i) (chip_of es i old))
       → new ≡ set old (k es i) a.chip → code ≡ a.code → shown ≡ a.value → Acts es i old new code shown
   by_kind n t f r x y = record { done = a; event = λ s. rw t (f s); row = r; coded = x; told = y }
 
-  pub by_side : (s : Bool) → (place es i % 2 is 1) ≡ s → kind es i ≡ 3 → (sound_chip (chip_at_lem es i old) ≡ true → a ≡ act_of (side s) (event_of 3 (value es i)) (value es i) (chip_at_lem es i old))
+  pub by_side : (s : Bool) → (place es i % 2 is 1) ≡ s → kind es i ≡ 3 → (sound_chip (chip_of es i old) ≡ true → a ≡ act_of (side s) (event_of 3 (value es i)) (value es i) (chip_of es i old))
       → new ≡ set old (k es i) a.chip → code ≡ a.code → shown ≡ a.value → Acts es i old new code shown
   by_side s e t f = by_kind 3 t (λ h. rw e (f h))
 
 -- what the kinds with code 0 and the event's value give: a chip
 module _ {es : List ℕ} {i : ℕ} {old new : List Chip} {code shown : ℕ} (d : Chip) (r : new ≡ set old (k es i) d) (x : code ≡ 0) (y : shown ≡ value es i) where
-  pub by_write : kind es i ≡ 4 → (sound_chip (chip_at_lem es i old) ≡ true → d ≡ step (side_of (place es i)) (write (value es i)) (chip_at_lem es i old)) → Acts es i old new code shown
+  pub by_write : kind es i ≡ 4 → (sound_chip (chip_of es i old) ≡ true → d ≡ step (side_of (place es i)) (write (value es i)) (chip_of es i old)) → Acts es i old new code shown
   unfolding step
   by_write t f =
-      by_kind (acted d 0 (value es i)) 4 t (λ s. act_write (side_of (place es i)) 4 (value es i) (chip_at_lem es i old) (changed (side_of (place es i)) (write (value es i)) (chip_at_lem es i old)) d refl refl refl (f s)) r x y
+      by_kind (acted d 0 (value es i)) 4 t (λ s. act_write (side_of (place es i)) 4 (value es i) (chip_of es i old) (changed (side_of (place es i)) (write (value es i)) (chip_of es i old)) d refl refl refl (f s)) r x y
 
-  pub by_strobe : kind es i ≡ 6 → (sound_chip (chip_at_lem es i old) ≡ true → d ≡ step (side_of (place es i)) (strobe (value es i is 1)) (chip_at_lem es i old)) → Acts es i old new code shown
+  pub by_strobe : kind es i ≡ 6 → (sound_chip (chip_of es i old) ≡ true → d ≡ step (side_of (place es i)) (strobe (value es i is 1)) (chip_of es i old)) → Acts es i old new code shown
   unfolding step
   by_strobe t f =
       by_kind (acted d 0 (value es i)) 6 t
-      (λ s. act_strobe (side_of (place es i)) 6 (value es i) (chip_at_lem es i old) (changed (side_of (place es i)) (strobe (value es i is 1)) (chip_at_lem es i old)) d refl refl refl refl refl (f s)) r x y
+      (λ s. act_strobe (side_of (place es i)) 6 (value es i) (chip_of es i old) (changed (side_of (place es i)) (strobe (value es i is 1)) (chip_of es i old)) d refl refl refl refl refl (f s)) r x y
 
   -- none of the other four kinds: outside levels
   pub by_lines : (kind es i ≡ 3 → ⊥) → (kind es i ≡ 4 → ⊥) → (kind es i ≡ 5 → ⊥) → (kind es i ≡ 6 → ⊥)
-      → (sound_chip (chip_at_lem es i old) ≡ true → d ≡ step (side_of (place es i)) (outside (value es i)) (chip_at_lem es i old)) → Acts es i old new code shown
+      → (sound_chip (chip_of es i old) ≡ true → d ≡ step (side_of (place es i)) (outside (value es i)) (chip_of es i old)) → Acts es i old new code shown
   unfolding step
   by_lines p q u v f = record {
     done = acted d 0 (value es i);
     event = λ s.
-        act_outside (side_of (place es i)) (kind es i) (value es i) (chip_at_lem es i old) (changed (side_of (place es i)) (outside (value es i)) (chip_at_lem es i old)) d
+        act_outside (side_of (place es i)) (kind es i) (value es i) (chip_of es i old) (changed (side_of (place es i)) (outside (value es i)) (chip_of es i old)) d
         (ne_eqb (kind es i) 3 p) (ne_eqb (kind es i) 4 q) (ne_eqb (kind es i) 5 u) (ne_eqb (kind es i) 6 v) refl (f s);
     row = r;
     coded = x;
@@ -145,14 +146,13 @@ module _ {es old : List ℕ} {start : ℕ} {b₀ : Board} {n : ℕ} {out : List 
       let l = byte_at es i 3 (omega arith) in
       rw (part_is es i, ← placed_plan b.size b.decoder marks due request (record_at es i) (record_long es i n g.more g.events) (rw j lo) (rw (j, p, u, l) z), j, p, u)
 
-  changes : (a : Acted) → a ≡ act_of (side_of (place es i)) (event_of (kind es i) (value es i)) (value es i) (chip_at_lem es i b.chips)
-      → with_acted w a ≡ changed_of (chip_at_lem es i b.chips) w
+  changes : (a : Acted) → a ≡ act_of (side_of (place es i)) (event_of (kind es i) (value es i)) (value es i) (chip_of es i b.chips)
+      → with_acted w a ≡ changed_of (chip_of es i b.chips) w
   unfolding changed_of
-  changes a e =
-      ap (with_acted w) (touch_act (chip_at_lem es i b.chips) w a (λ m. omega (arith, m, lo)) (λ m. omega (arith, m, lo)) e) ∙ sym (if_on true (with_acted w _) _ refl)
+  changes a e = ap (with_acted w) (touch_act (chip_of es i b.chips) w a (λ m. omega (arith, m, lo)) (λ m. omega (arith, m, lo)) e)
 
-  pub act_turn : {new : List Chip} {code shown : ℕ} (a : Acts es i b.chips new code shown) (ms : Marks) (q : ℕ) (y : Bool) (out' : List ℕ) → ms ≡ marked_of marks (k es i) (chip_at_lem es i new)
-      → q ≡ renewed_of marks (k es i) (chip_at_lem es i new) request → y ≡ stirs (chip_at_lem es i new)
+  pub act_turn : {new : List Chip} {code shown : ℕ} (a : Acts es i b.chips new code shown) (ms : Marks) (q : ℕ) (y : Bool) (out' : List ℕ) → ms ≡ marked_of marks (k es i) (chip_of es i new)
+      → q ≡ renewed_of marks (k es i) (chip_of es i new) request → y ≡ stirs (chip_of es i new)
       → out' ≡ splice out (4 * (start + i)) (code ∷ place es i ∷ shown ∷ q ∷ [])
       → Running es old start b₀ n out' (record { size = b.size; chips = new; decoder = b.decoder }) (i + 1)
       × Kept (record { size = b.size; chips = new; decoder = b.decoder }) ms q (due || y)
@@ -160,7 +160,7 @@ module _ {es old : List ℕ} {start : ℕ} {b₀ : Board} {n : ℕ} {out : List 
       let d = a.done in
       let e = ap (λ (cs : List Chip). get_or cs (k es i) blank) a.row ∙ get_or-set_same b.chips (k es i) d.chip blank in_row in
       let v = u ∙ ap (marked_of marks (k es i)) e in
-      let s = r ∙ renewed_is marks (k es i) (chip_at_lem es i new) request g.kept.asked ∙ ap (λ (x : Chip). caller_of (marked_of marks (k es i) x)) e in
+      let s = r ∙ renewed_is marks (k es i) (chip_of es i new) request g.kept.asked ∙ ap (λ (x : Chip). caller_of (marked_of marks (k es i) x)) e in
       rw (l, e, s, v, a.row)
       (single_turn g w planned (with_acted w d) out' refl refl (changes d (a.event (chip_sound b (k es i) g.kept.sound g.kept.row fits)))
       (rw (← a.coded, ← a.told, ← s) o))

@@ -1,5 +1,6 @@
 -- The ways out of `refusal` and of `run`.
 -- Assumes nothing.
+use Rattle.std.specs.Prelude.{if◌then◌else◌}
 use mathlib.Core.Path.{◌≡◌, ap, ◌∙◌}
 use mathlib.Core.Bool.{Bool, true, false}
 use mathlib.Core.List.{List}
@@ -7,7 +8,6 @@ use Prim.Native.Nat.{ℕ, ◌+◌, ◌*◌, ◌/◌, ◌%◌, ◌≤◌, ◌<◌
 use native.Mathlib.Omega.{arith}
 use lib.ListN.{length}
 use borrow.Author.Tests.{lt-ltb, eq-eqb, ne_eqb, le-ltb}
-use Rattle.bits.specs.Bits.{if◌then◌else◌}
 use Rattle.buffers.specs.Splice.{splice}
 use Rattle.board.specs.declared.Board.{Board}
 use Rattle.board.specs.declared.Look.{Look}
@@ -45,10 +45,10 @@ module _ (b : Board) (es old : List ℕ) (start : ℕ) (l : Look) (i : l ≡ loo
   code_is = e ∙ ap (λ (t : Bool). refusal_of t (length es) (length old) start) (sound_is b l i)
 
   pub run_refused : (code ≡ 0 → ⊥) → (◌≡◌ {A = Ran} (record { code = code; records = 0; board = b }) (ran_of b es old start)) × (old ≡ buffer_of b es old start)
-  unfolding ran_of buffer_of if◌then◌else◌
+  unfolding ran_of buffer_of
   run_refused z = (rw (← code_is, ne_eqb code 0 z), rw (← code_is, ne_eqb code 0 z))
 
   pub run_taken : (after : Board) (out : List ℕ) → code ≡ 0 → after ≡ steps_of b (records es) → out ≡ splice old (4 * start) (answers_of b (records es))
       → (◌≡◌ {A = Ran} (record { code = 0; records = length es / 4; board = after }) (ran_of b es old start)) × (out ≡ buffer_of b es old start)
-  unfolding ran_of buffer_of if◌then◌else◌
+  unfolding ran_of buffer_of
   run_taken after out z f g = (rw (← code_is, z, f), rw (← code_is, z, g))

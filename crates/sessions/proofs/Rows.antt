@@ -1,9 +1,9 @@
 -- How the theorems of single rows make that of all of them.
 -- Assumes nothing.
+use Rattle.std.specs.Prelude.{if◌then◌else◌}
 use mathlib.Core.Path.{◌≡◌, refl}
 use mathlib.Core.Bool.{true}
 use mathlib.Core.List.{List, [], ◌∷◌}
-use Rattle.bits.specs.Bits.{if◌then◌else◌}
 use Rattle.sessions.specs.Rows.{Row, kept, SessionsHold}
 
 infixr 20 ◌also◌
@@ -12,6 +12,5 @@ pub data Each : List Row → Type 0 where
   ◌also◌ : {r : Row} {rs : List Row} → kept r ≡ true → Each rs → Each (r ∷ rs)
 
 pub together : (rs : List Row) → Each rs → SessionsHold rs
-unfolding if◌then◌else◌
 together [] none = refl
 together (r ∷ rs) (one also rest) = rw one (together rs rest)

@@ -1,7 +1,7 @@
 -- Every slip is missed, by computation.
 -- Assumes nothing.
+use Rattle.std.specs.Prelude.{if◌then◌else◌}
 use mathlib.Core.Path.{refl}
-use Rattle.bits.specs.Bits.{if◌then◌else◌}
 use Rattle.bits.specs.Lines.{match_of, mixed_of, levels_of}
 use Rattle.port.specs.Rules.{match_now}
 use Rattle.chip.specs.Sound.{sound_chip}
@@ -13,5 +13,5 @@ use Rattle.board.specs.Step.{refusal, doing_of, taken, accepted, refused, step_o
 use Rattle.sessions.specs.Slips.{SlipsMissed}
 
 pub slips_missed : SlipsMissed
-unfolding if◌then◌else◌ match_of mixed_of levels_of match_now sound_chip event_of acknowledged retired next_of reti_of sound_board fresh_of request_of lines_of refusal doing_of taken accepted refused step_of
+unfolding match_of mixed_of levels_of match_now sound_chip event_of acknowledged retired next_of reti_of sound_board fresh_of request_of lines_of refusal doing_of taken accepted refused step_of
 slips_missed = refl

@@ -1,9 +1,9 @@
 -- The words in which the sessions of Sessions.antt are written, and how a row is worked out by the product's own definitions: a fresh
 -- board, one step for each event, and what is then to be seen of places.
 -- Assumes nothing.
-use Rattle.std.specs.Prelude.{ℕ, ◌≡◌, Bool, true, false, ◌&&◌, List, [], ◌∷◌, ◌++◌, get_or, set, replicate}
+use Rattle.std.specs.Prelude.{ℕ, ◌≡◌, Bool, true, false, ◌&&◌, List, [], ◌∷◌, ◌++◌, get_or, set, replicate, if◌then◌else◌}
 use Prim.Native.String.{String}
-use Rattle.bits.specs.Bits.{if◌then◌else◌, ◌is◌}
+use Rattle.bits.specs.Bits.{◌is◌}
 use Rattle.port.specs.Rules.{served, fresh_port}
 use Rattle.port.specs.declared.Port.{Port}
 use Rattle.chain.specs.Chain.{flat}

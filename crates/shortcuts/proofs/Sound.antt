@@ -1,12 +1,13 @@
 -- One event at a sound chip, with no more settling than it can need, is the chip's step.
 -- Assumes nothing.
+use Rattle.std.specs.Prelude.{if◌then◌else◌}
 use mathlib.Core.Path.{◌≡◌, refl, sym, ap, ap₂, ◌∙◌}
 use mathlib.Core.Bool.{Bool, true, false, ◌&&◌, ◌||◌, not, beq, false≢true, true≢false}
 use mathlib.Core.List.{[], ◌∷◌}
 use Prim.Native.Nat.{ℕ}
 use types.Run.{OneOf}
 use denote.Enum.Declared.{tag_of}
-use Rattle.bits.specs.Bits.{if◌then◌else◌, ◌is◌}
+use Rattle.bits.specs.Bits.{◌is◌}
 use Rattle.bits.proofs.Logic.{both, beq_is}
 use Rattle.port.specs.Fields.{input_at, waiting_at, matched_at, ready_at, strobe_at as port-strobe-at}
 use Rattle.port.specs.Rules.{strobed, lines_now, match_now, settled, shown_of}
@@ -49,12 +50,10 @@ settled_input f w p m =
     (rw (← m) (no_edge p.waiting p.matched)) (sym m))
 
 pub follow_none : (f : Bool) (p : Port) → not f ≡ true → p ≡ following f p
-unfolding if◌then◌else◌
 follow_none true p e = absurd (false≢true e)
 follow_none false p e = refl
 
 pub follow_taken : (f : Bool) (p : Port) → not f ≡ false → input_at p.lines p ≡ following f p
-unfolding if◌then◌else◌
 follow_taken true p e = refl
 follow_taken false p e = absurd (true≢false e)
 
@@ -123,7 +122,6 @@ strobed_same acts p =
 
 strobe_both : (c : Chip) (s level : Bool) → sound_chip c ≡ true
     → followed (made (strobed (acts A c) (if s then c.a.strobe else level) c.a) (strobed (acts B c) (if s then level else c.b.strobe) c.b)) ≡ step (side s) (strobe level) c
-unfolding if◌then◌else◌
 strobe_both c true level h = ap (λ (x : Port). followed (made x (strobed (acts B c) level c.b))) (strobed_same (acts A c) c.a) ∙ strobe_side c true B level h
 strobe_both c false level h = ap (λ (x : Port). followed (made (strobed (acts A c) level c.a) x)) (strobed_same (acts B c) c.b) ∙ strobe_side c false A level h
 
@@ -133,7 +131,6 @@ strobe_is c s level x y p q d e f i j k h = rw (k, i, j, e, f) (strobe_both c s 
 
 -- ---- a control word to B: no word moves the strobe, so A rests as before
 obeyed_strobe : (linked : Bool) (p : Port) (w : Word) → (obeyed linked p w).strobe ≡ p.strobe
-unfolding if◌then◌else◌
 obeyed_strobe linked p (Vector v) = refl
 obeyed_strobe linked p (Mode m) = refl
 obeyed_strobe linked p (Interrupt on all high true) = refl

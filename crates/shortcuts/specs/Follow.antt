@@ -1,8 +1,7 @@
 -- The part of settling that a strobe needs: the registers that follow take their lines. Nothing here need be believed: the laws in
 -- proofs/ say that on a sound chip it is all of settling.
 -- Assumes nothing.
-use Rattle.std.specs.Prelude.{Bool}
-use Rattle.bits.specs.Bits.{if◌then◌else◌}
+use Rattle.std.specs.Prelude.{Bool, if◌then◌else◌}
 use Rattle.port.specs.Fields.{input_at}
 use Rattle.port.specs.declared.Port.{Port}
 use Rattle.chip.specs.declared.Chip.{Chip}

@@ -2,8 +2,7 @@
 // kind settles only what it can have unsettled. What comes out is the chip's own event, `act_of`.
 #![tactic(auto)]
 
-ghost use Rattle.std.specs.Prelude.{◌≡◌, true, false};
-ghost use Rattle.bits.specs.Bits.{if◌then◌else◌};
+ghost use Rattle.std.specs.Prelude.{◌≡◌, true, false, if◌then◌else◌};
 ghost use Rattle.chip.specs.Chip.{side};
 ghost use Rattle.chip.specs.Sound.{sound_chip};
 ghost use Rattle.events.specs.Events.{write, strobe, outside};

@@ -1,6 +1,6 @@
 -- The laws of a listing that is written line by line, and of its tail. Assumes nothing.
+use Rattle.std.specs.Prelude.{if◌then◌else◌}
 use Rattle.std.proofs.Common.{◌≡◌, ℕ, ◌+◌, ◌*◌, ◌/◌, ◌%◌, ◌<◌, ◌≤◌, Bool, true, false, List, [], ◌∷◌, ◌++◌, length, get_or, drop, refl, add_assoc, add-one, arith, length-drop, drop-cons, eq-eqb, ne_eqb}
-use Rattle.bits.specs.Bits.{if◌then◌else◌}
 use Rattle.buffers.specs.Splice.{has_room, if_room, Wrote}
 use Rattle.buffers.specs.Text.{ascii}
 use Rattle.buffers.specs.Rows.{row_of}
@@ -65,7 +65,6 @@ module _ (bs old : List ℕ) (at first : ℕ) where
 
 -- what is written is no longer than the text
 shorter : (b : Bool) (text : List ℕ) → length (if b then text else []) ≤ length text
-unfolding if◌then◌else◌
 shorter true text = omega arith
 shorter false text = omega arith
 
@@ -85,10 +84,10 @@ nothing old at need = empty (if_room old at need []) (at_most old at need [])
 
 -- no bytes over: nothing is written
 pub no_tail : (old : List ℕ) (at need bytes : ℕ) → bytes % 4 ≡ 0 → Wrote old at (if_room old at need (tail_of bytes)) old at
-unfolding tail_of if◌then◌else◌
+unfolding tail_of
 no_tail old at need bytes h = rw (eq-eqb (bytes % 4) 0 h, nothing) (wrote_none old at)
 
 -- bytes over: the line
 pub some_tail : (bytes : ℕ) → (bytes % 4 ≡ 0 → ⊥) → tail_of bytes ≡ ascii "tail " ++ row_of (bytes % 4 ∷ [])
-unfolding tail_of if◌then◌else◌
+unfolding tail_of
 some_tail bytes h = rw (ne_eqb (bytes % 4) 0 h)

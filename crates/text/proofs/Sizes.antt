@@ -1,7 +1,7 @@
 -- The laws of a size that is read digit by digit. Assumes nothing.
+use Rattle.std.specs.Prelude.{if◌then◌else◌}
 use Rattle.std.proofs.Common.{◌≡◌, ℕ, ◌+◌, ◌-◌, ◌*◌, ◌<◌, ◌≤◌, Bool, true, false, ◌&&◌, leb, List, [], ◌∷◌, length, get_or, drop, sym, refl, ◌∙◌, add-one, arith, drop_of_length-le, drop-cons, le-leb}
 use borrow.Author.Tests.{lt-leb}
-use Rattle.bits.specs.Bits.{if◌then◌else◌}
 use Rattle.text.specs.Panel.{numeral, value_of, size_from}
 
 -- the size that the digits so far, n, and the text behind them come to
@@ -14,7 +14,6 @@ grows n [] = omega arith
 grows n (d ∷ ds) = omega (arith, grows (10 * n + (d - 48)) ds)
 
 never : (b : Bool) (m : ℕ) → (if b && false then m else 0) ≡ 0
-unfolding if◌then◌else◌
 never true m = refl
 never false m = refl
 
@@ -39,11 +38,9 @@ module _ (text : List ℕ) where
     split = rw add-one (drop-cons text i 0 h)
 
     pub below : get_or text i 0 < 48 → 0 ≡ size_from text
-    unfolding if◌then◌else◌
     below small = rw (split, lt-leb 48 (get_or text i 0) small) at w.rest
 
     pub above : 48 ≤ get_or text i 0 → 57 < get_or text i 0 → 0 ≡ size_from text
-    unfolding if◌then◌else◌
     above big bigger = rw (split, le-leb 48 (get_or text i 0) big, lt-leb (get_or text i 0) 57 bigger) at w.rest
 
     -- byte i is a digit
@@ -57,5 +54,4 @@ module _ (text : List ℕ) where
     turn big small few = record { within = omega arith; small = few; rest = next big small }
 
   pub done : {n i : ℕ} → Reading n i → length text ≤ i → n ≡ size_from text
-  unfolding if◌then◌else◌
   done {n} {i} w h = rw (drop_of_length-le text h, le-leb n 4 w.small) at w.rest

@@ -1,7 +1,7 @@
 -- The text of the listing: document 01, "Sessions to try", the listing program. To be believed: a line is the answer's number and its
 -- four bytes in decimal with one space between, and the bytes over at the end of the input are counted on a line of their own.
-use Rattle.std.specs.Prelude.{ℕ, ◌+◌, ◌%◌, ◌^◌, List, [], ◌∷◌, ◌++◌}
-use Rattle.bits.specs.Bits.{if◌then◌else◌, ◌is◌}
+use Rattle.std.specs.Prelude.{ℕ, ◌+◌, ◌%◌, ◌^◌, List, [], ◌∷◌, ◌++◌, if◌then◌else◌}
+use Rattle.bits.specs.Bits.{◌is◌}
 use Rattle.buffers.specs.Text.{ascii}
 use Rattle.buffers.specs.Rows.{row_of}
 

@@ -1,8 +1,8 @@
 -- The viewer at work: a small text, the frames in it, and a line's value at some times. Assumes nothing.
+use Rattle.std.specs.Prelude.{if◌then◌else◌}
 use mathlib.Core.Path.{◌≡◌, refl}
 use mathlib.Core.List.{List, [], ◌∷◌, ◌++◌, map}
 use Prim.Native.Nat.{ℕ}
-use Rattle.bits.specs.Bits.{if◌then◌else◌}
 use Rattle.buffers.specs.Text.{ascii}
 use Rattle.frames.specs.Frames.{header}
 use Rattle.viewer.specs.Reader.{Change, Frame, frames_in, unknown, shown_at, shown_before}
@@ -22,18 +22,15 @@ frames =
     ∷ []
 
 frames_read : frames_in (header ++ ascii "#0\n0!\n1\"\n#12\n0\"\n#65537\n1!\n1\"\n") ≡ frames
-unfolding frames_in header if◌then◌else◌
+unfolding frames_in header
 frames_read = refl
 
 -- rdy0 falls at 12 and rises at 65,537; of rdy1, with character 35, nothing is shown
 rdy0_shown : map (λ (time : ℕ). shown_at frames time 34) (0 ∷ 11 ∷ 12 ∷ 65536 ∷ 65537 ∷ []) ≡ 1 ∷ 1 ∷ 0 ∷ 0 ∷ 1 ∷ []
-unfolding if◌then◌else◌
 rdy0_shown = refl
 
 rdy0_before : map (λ (time : ℕ). shown_before frames time 34) (0 ∷ 12 ∷ 65537 ∷ []) ≡ unknown ∷ 1 ∷ 0 ∷ []
-unfolding if◌then◌else◌
 rdy0_before = refl
 
 rdy1_unknown : shown_at frames 65537 35 ≡ unknown
-unfolding if◌then◌else◌
 rdy1_unknown = refl

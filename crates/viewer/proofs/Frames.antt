@@ -1,4 +1,5 @@
 -- The frames of a row of shots: what is written for them, and what a viewer shows of them. Assumes nothing.
+use Rattle.std.specs.Prelude.{if◌then◌else◌}
 use mathlib.Core.Path.{◌≡◌, refl, sym, ap, ◌∙◌}
 use mathlib.Core.List.{List, [], ◌∷◌, ◌++◌, map}
 use Prim.Native.Nat.{ℕ, zero, suc, ◌+◌, ◌≤◌, ◌<◌}
@@ -7,7 +8,7 @@ use native.Mathlib.Omega.{arith}
 use lib.Dec.{leb}
 use lib.ListN.{length, get_or, take}
 use borrow.Author.Tests.{eqb-true, eqb-false, eq-eqb, ne_eqb, leb-false, le-leb, lt-leb}
-use Rattle.bits.specs.Bits.{if◌then◌else◌, ◌is◌}
+use Rattle.bits.specs.Bits.{◌is◌}
 use Rattle.bits.proofs.Logic.{by_cases}
 use Rattle.frames.specs.Frames.{identifier, time_line, value_line, changed_lines, later_frame}
 use Rattle.recording.specs.Wave.{Shot, later_frames}
@@ -32,7 +33,7 @@ frames_of shown (s ∷ ss) = framed s.time (changes_of identifier shown s.values
 
 -- ---- they are what the text has
 changes_written : (character : ℕ) (shown values : List ℕ) → changed_lines character shown values ≡ written_changes (changes_of character shown values)
-unfolding changed_lines if◌then◌else◌
+unfolding changed_lines
 changes_written character [] values = refl
 changes_written character (s ∷ ss) [] = refl
 changes_written character (s ∷ ss) (v ∷ vs) =
@@ -42,7 +43,7 @@ changes_written character (s ∷ ss) (v ∷ vs) =
 
 framed_written : (time : ℕ) (cs : List Change) (fs : List Frame)
     → (if length (written_changes cs) is 0 then [] else time_line time ++ written_changes cs) ++ written fs ≡ written (framed time cs fs)
-unfolding if◌then◌else◌ value_line
+unfolding value_line
 framed_written time [] fs = refl
 framed_written time (c ∷ cs) fs = rw (ne_eqb (length (written_changes (c ∷ cs))) 0 (omega arith))
 
@@ -59,7 +60,6 @@ pub record Levels (s : Shot) : Type 0 where
   pub binary : Each (λ (v : ℕ). v < 2) s.values
 
 changes_writable : (character : ℕ) (shown values : List ℕ) → 10 < character → Each (λ (v : ℕ). v < 2) values → Each Writable (changes_of character shown values)
-unfolding if◌then◌else◌
 changes_writable character [] values h v = tt
 changes_writable character (s ∷ ss) [] h v = tt
 changes_writable character (s ∷ ss) (v ∷ vs) h l =
@@ -113,7 +113,6 @@ rising_grows n (a ∷ b ∷ l) r (suc i) h = rising_grows (suc a) (b ∷ l) r.1 
 
 -- ---- the first shot has a line for each value
 pub frames_begin : (shots : List Shot) (time : ℕ) → Each Levels shots → take 1 (shot_times shots) ≡ time ∷ [] → take 1 (times (frames_of unseen shots)) ≡ time ∷ []
-unfolding if◌then◌else◌
 frames_begin [] time l e = e
 frames_begin (s ∷ ss) time l e = begins s.values l.0.nine l.0.binary
   where
@@ -124,20 +123,17 @@ frames_begin (s ∷ ss) time l e = begins s.values l.0.nine l.0.binary
 -- ---- what is shown
 -- a later frame shows nothing yet
 pub shown_held : (n value : ℕ) (fs : List Frame) (time character : ℕ) → time < n → Rising n (times fs) → shown_from value fs time character ≡ value
-unfolding if◌then◌else◌
 shown_held n value [] time character h r = refl
 shown_held n value (f ∷ fs) time character h r =
     rw (lt-leb f.time time (omega (arith, r.0))) (shown_held (suc f.time) value fs time character (omega (arith, r.0)) r.1)
 
 framed_shown : (value time : ℕ) (cs : List Change) (fs : List Frame) (now character : ℕ)
     → shown_from value (framed time cs fs) now character ≡ shown_from (if leb time now then changed_by cs character value else value) fs now character
-unfolding if◌then◌else◌
 framed_shown value time [] fs now character = by_cases (leb time now) (λ t. rw t) (λ t. rw t)
 framed_shown value time (c ∷ cs) fs now character = refl
 
 -- the changes of a time bring each line to its new value
 change_others : (from : ℕ) (shown values : List ℕ) (character value : ℕ) → character < from → changed_by (changes_of from shown values) character value ≡ value
-unfolding if◌then◌else◌
 change_others from [] values character value h = refl
 change_others from (s ∷ ss) [] character value h = refl
 change_others from (s ∷ ss) (v ∷ vs) character value h =
@@ -148,7 +144,6 @@ change_others from (s ∷ ss) (v ∷ vs) character value h =
 
 change_shows : (from : ℕ) (shown values : List ℕ) (line : ℕ) → length shown ≡ length values → line < length values
     → changed_by (changes_of from shown values) (from + line) (get_or shown line 0) ≡ get_or values line 0
-unfolding if◌then◌else◌
 change_shows from [] [] line same h = absurd (omega arith)
 change_shows from [] (v ∷ vs) line same h = absurd (omega (arith, same))
 change_shows from (s ∷ ss) [] line same h = absurd (omega arith)
@@ -173,7 +168,6 @@ last_by time before (s ∷ ss) = if leb s.time time then last_by time s.values s
 
 pub frames_show : (n : ℕ) (shown : List ℕ) (shots : List Shot) (time line : ℕ) → length shown ≡ 9 → Each Levels shots → Rising n (shot_times shots) → line < 9
     → shown_from (get_or shown line 0) (frames_of shown shots) time (identifier + line) ≡ get_or (last_by time shown shots) line 0
-unfolding if◌then◌else◌
 frames_show n shown [] time line h l r small = refl
 frames_show n shown (s ∷ ss) time line h l r small =
     let cs = changes_of identifier shown s.values in
@@ -189,7 +183,6 @@ frames_show n shown (s ∷ ss) time line h l r small =
 -- ---- every line that is shown has changed
 changes_differ : (view : ℕ → ℕ) (from : ℕ) (shown values : List ℕ) → ((line : ℕ) → line < length shown → view (from + line) ≡ get_or shown line 0)
     → Each (λ (c : Change). view c.character ≡ c.value → ⊥) (changes_of from shown values)
-unfolding if◌then◌else◌
 changes_differ view from [] values h = tt
 changes_differ view from (s ∷ ss) [] h = tt
 changes_differ view from (s ∷ ss) (v ∷ vs) h =
@@ -205,12 +198,10 @@ before_by zero before shots = before
 before_by (suc time) before shots = last_by time before shots
 
 before_first : (time : ℕ) (before : List ℕ) (s : Shot) (ss : List Shot) → time ≤ s.time → before_by time before (s ∷ ss) ≡ before
-unfolding if◌then◌else◌
 before_first zero before s ss h = refl
 before_first (suc time) before s ss h = rw (lt-leb s.time time h)
 
 before_next : (time : ℕ) (before : List ℕ) (s : Shot) (ss : List Shot) → s.time < time → before_by time before (s ∷ ss) ≡ before_by time s.values ss
-unfolding if◌then◌else◌
 before_next zero before s ss h = absurd (omega arith)
 before_next (suc time) before s ss h = rw (le-leb s.time time (omega arith))
 
@@ -234,7 +225,6 @@ ordered_lower n m [] h o = tt
 ordered_lower n m (c ∷ cs) h o = (omega (arith, o.0), o.1)
 
 changes_ordered : (from : ℕ) (shown values : List ℕ) → from + length values ≤ 42 → Ordered from (changes_of from shown values)
-unfolding if◌then◌else◌
 changes_ordered from [] values h = tt
 changes_ordered from (s ∷ ss) [] h = tt
 changes_ordered from (s ∷ ss) (v ∷ vs) h =

@@ -1,11 +1,11 @@
 -- The frames that are written are the frames that are read. Assumes nothing.
+use Rattle.std.specs.Prelude.{if◌then◌else◌}
 use mathlib.Core.Path.{◌≡◌, refl, ap, ◌∙◌}
 use mathlib.Core.List.{List, [], ◌∷◌, ◌++◌, append_assoc, append-nil}
 use Prim.Native.Nat.{ℕ, zero, suc, ◌+◌, ◌-◌, ◌*◌, ◌/◌, ◌%◌, ◌<◌}
 use native.Mathlib.Omega.{arith}
 use lib.Dec.{ltb}
 use borrow.Author.Tests.{ne_eqb, ltb-false}
-use Rattle.bits.specs.Bits.{if◌then◌else◌}
 use Rattle.bits.proofs.Logic.{by_cases}
 use Rattle.buffers.specs.Digits.{digits_up, digits_of}
 use Rattle.frames.specs.Frames.{header, time_line, value_line}
@@ -21,13 +21,12 @@ each_append P [] ys p q = q
 each_append P (x ∷ xs) ys p q = (p.0, each_append P xs ys p.1 q)
 
 line_read : (line rest : List ℕ) → Each Plain line → lines_in (line ++ (newline ∷ rest)) ≡ line ∷ lines_in rest
-unfolding if◌then◌else◌
 line_read [] rest p = refl
 line_read (byte ∷ line) rest p = rw (ne_eqb byte newline p.0, line_read line rest p.1)
 
 -- ---- the digits of a number
 digits_plain : (depth n : ℕ) → Each Plain (digits_up depth n)
-unfolding digits_up if◌then◌else◌
+unfolding digits_up
 digits_plain zero n = tt
 digits_plain (suc depth) n =
     by_cases (ltb n 10)
@@ -39,7 +38,7 @@ number_append n [] d = refl
 number_append n (x ∷ ds) d = number_append (10 * n + (x - 48)) ds d
 
 number_read : (depth n : ℕ) → n < depth → number_from 0 (digits_up depth n) ≡ n
-unfolding digits_up if◌then◌else◌
+unfolding digits_up
 number_read zero n h = absurd (omega arith)
 number_read (suc depth) n h =
     by_cases (ltb n 10)
@@ -56,7 +55,7 @@ pub record Writable (c : Change) : Type 0 where
 
 change_read : (c : Change) (rest : List ℕ) → Writable c
     → read_lines (lines_in (value_line c.character c.value ++ rest)) ≡ record { early = c ∷ (read_lines (lines_in rest)).early; frames = (read_lines (lines_in rest)).frames }
-unfolding value_line if◌then◌else◌
+unfolding value_line
 change_read c rest w = level c.character c.value w.level w.plain
   where
     level : (character value : ℕ) → value < 2 → Plain character
@@ -78,7 +77,6 @@ time_line_lem time rest =
 
 time_read : (time : ℕ) (rest : List ℕ)
     → read_lines (lines_in (time_line time ++ rest)) ≡ record { early = []; frames = record { time = time; changes = (read_lines (lines_in rest)).early } ∷ (read_lines (lines_in rest)).frames }
-unfolding if◌then◌else◌
 time_read time rest = rw (time_line_lem time rest, number_read (suc time) time (omega arith))
 
 frames_read : (fs : List Frame) → Each (λ (f : Frame). Each Writable f.changes) fs → read_lines (lines_in (written fs)) ≡ record { early = []; frames = fs }
@@ -87,7 +85,7 @@ frames_read (f ∷ fs) w =
     rw (append_assoc, time_read f.time (written_changes f.changes ++ written fs), changes_read f.changes (written fs) w.0, frames_read fs w.1, append-nil)
 
 header_read : (rest : List ℕ) → read_lines (lines_in (header ++ rest)) ≡ read_lines (lines_in rest)
-unfolding header if◌then◌else◌
+unfolding header
 header_read rest = refl
 
 pub text_read : (fs : List Frame) → Each (λ (f : Frame). Each Writable f.changes) fs → frames_in (header ++ written fs) ≡ fs

@@ -1,4 +1,5 @@
 -- What a viewer reads of a recording has one text. Assumes nothing.
+use Rattle.std.specs.Prelude.{if◌then◌else◌}
 use mathlib.Core.Path.{◌≡◌, refl, sym, ap, ap₂, subst, ◌∙◌}
 use mathlib.Core.List.{List, [], ◌∷◌, ◌++◌}
 use Prim.Native.Nat.{ℕ, zero, suc, ◌+◌, ◌-◌, ◌≤◌, ◌<◌}
@@ -6,7 +7,7 @@ use native.Mathlib.Omega.{arith}
 use lib.Dec.{ltb}
 use lib.ListN.{length, length-map, get_or}
 use borrow.Author.Tests.{eqb-true, eqb-false, eq-eqb, ne_eqb, ltb-true, ltb-false, le-leb}
-use Rattle.bits.specs.Bits.{if◌then◌else◌, ◌is◌}
+use Rattle.bits.specs.Bits.{◌is◌}
 use Rattle.bits.proofs.Logic.{by_cases}
 use Rattle.board.specs.declared.Board.{Board}
 use Rattle.records.specs.Records.{records}
@@ -25,23 +26,19 @@ abbrev Real : (ℕ → ℕ) → List Change → Type 0
 Real old cs = Each (λ (c : Change). old c.character ≡ c.value → ⊥) cs
 
 changed_others : (from : ℕ) (cs : List Change) (character value : ℕ) → character < from → Ordered from cs → changed_by cs character value ≡ value
-unfolding if◌then◌else◌
 changed_others from [] character value h o = refl
 changed_others from (c ∷ cs) character value h o =
     rw (ne_eqb c.character character (λ z. omega (arith, o.0))) (changed_others (suc c.character) cs character value (omega (arith, o.0)) o.1.1)
 
 -- the first change of a frame shows
 changed_first : (from : ℕ) (c : Change) (cs : List Change) (value : ℕ) → Ordered from (c ∷ cs) → changed_by (c ∷ cs) c.character value ≡ c.value
-unfolding if◌then◌else◌
 changed_first from c cs value o = rw (eq-eqb c.character c.character refl) (changed_others (suc c.character) cs c.character c.value (omega arith) o.1.1)
 
 changed_later : (c : Change) (cs : List Change) (character value : ℕ) → c.character < character → changed_by (c ∷ cs) character value ≡ changed_by cs character value
-unfolding if◌then◌else◌
 changed_later c cs character value h = rw (ne_eqb c.character character (λ z. omega arith))
 
 changes_between : (n from : ℕ) (old new : ℕ → ℕ) (cs : List Change) → from + n ≡ 42 → Ordered from cs → Real old cs
     → ((character : ℕ) → from ≤ character → character < 42 → new character ≡ changed_by cs character (old character)) → cs ≡ between n from old new
-unfolding if◌then◌else◌
 changes_between zero from old new [] e o r h = refl
 changes_between zero from old new (c ∷ cs) e o r h = absurd (omega (arith, o.0, o.1.0))
 changes_between (suc n) from old new [] e o r h =
@@ -74,14 +71,12 @@ neat_rises n old (f ∷ fs) w = (w.0, neat_rises (suc f.time) (λ character. cha
 -- at its time a frame shows its changes
 shown_now : (n : ℕ) (old : ℕ → ℕ) (f : Frame) (fs : List Frame) (character : ℕ) → Neat n old (f ∷ fs)
     → shown_from (old character) (f ∷ fs) f.time character ≡ changed_by f.changes character (old character)
-unfolding if◌then◌else◌
 shown_now n old f fs character w =
     rw (le-leb f.time f.time (omega arith))
     (shown_held (suc f.time) (changed_by f.changes character (old character)) fs f.time character (omega arith) (neat_rises n old (f ∷ fs) w).1)
 
 shown_on : (f : Frame) (fs : List Frame) (value time character : ℕ) → f.time ≤ time
     → shown_from value (f ∷ fs) time character ≡ shown_from (changed_by f.changes character value) fs time character
-unfolding if◌then◌else◌
 shown_on f fs value time character h = rw (le-leb f.time time h)
 
 -- and that is not what was shown before

@@ -1,4 +1,5 @@
 -- The shots of a recording: their values and times, merged or not, and the last record up to a time. Assumes nothing.
+use Rattle.std.specs.Prelude.{if◌then◌else◌}
 use mathlib.Core.Path.{◌≡◌, refl, sym, ap, ◌∙◌}
 use mathlib.Core.Bool.{Bool, true, false, not}
 use mathlib.Core.List.{List, [], ◌∷◌}
@@ -7,7 +8,7 @@ use native.Mathlib.Omega.{arith}
 use lib.Dec.{leb}
 use lib.ListN.{length, get_or, take}
 use borrow.Author.Tests.{eqb-true, eqb-false, leb-true, leb-false, le-leb}
-use Rattle.bits.specs.Bits.{if◌then◌else◌, ◌is◌}
+use Rattle.bits.specs.Bits.{◌is◌}
 use Rattle.bits.proofs.Logic.{by_cases}
 use Rattle.port.specs.declared.Port.{Port}
 use Rattle.chip.specs.declared.Chip.{Chip}
@@ -24,7 +25,6 @@ use Rattle.viewer.proofs.Frames.{Levels, Rising, shot_times, last_by}
 
 -- ---- nine values, each 0 or 1
 flag_binary : (on : Bool) → flag on < 2
-unfolding if◌then◌else◌
 flag_binary true = omega arith
 flag_binary false = omega arith
 
@@ -44,7 +44,7 @@ shots_levels b (e ∷ es) [] = tt
 shots_levels b (e ∷ es) (t ∷ ts) = (record { nine = nine _ _ _; binary = values_binary _ _ _ }, shots_levels (step_of b e).board es ts)
 
 pub merged_each : (P : Shot → Type 0) (shots : List Shot) → Each P shots → Each P (merged shots)
-unfolding merged if◌then◌else◌
+unfolding merged
 merged_each P [] h = tt
 merged_each P (s ∷ []) h = h
 merged_each P (s ∷ t ∷ ss) h =
@@ -87,7 +87,7 @@ shots_times b (e ∷ es) (t ∷ ts) h = ap (λ (l : List ℕ). t ∷ l) (shots_t
 
 -- merged, they grow
 merged_rise : (n : ℕ) (shots : List Shot) → Ascending n (shot_times shots) → Rising n (shot_times (merged shots))
-unfolding merged if◌then◌else◌
+unfolding merged
 merged_rise n [] a = tt
 merged_rise n (s ∷ []) a = (a.0, tt)
 merged_rise n (s ∷ t ∷ ss) a =
@@ -100,7 +100,7 @@ merged_rise n (s ∷ t ∷ ss) a =
 
 -- and the first time stays
 merged_begin : (s : Shot) (ss : List Shot) → take 1 (shot_times (merged (s ∷ ss))) ≡ s.time ∷ []
-unfolding merged if◌then◌else◌
+unfolding merged
 merged_begin s [] = refl
 merged_begin s (t ∷ ss) =
     by_cases (s.time is t.time)
@@ -109,7 +109,7 @@ merged_begin s (t ∷ ss) =
 
 -- ---- the last shot up to a time is the same with shots merged
 merged_last : (time : ℕ) (before : List ℕ) (shots : List Shot) → last_by time before (merged shots) ≡ last_by time before shots
-unfolding merged if◌then◌else◌
+unfolding merged
 merged_last time before [] = refl
 merged_last time before (s ∷ []) = refl
 merged_last time before (s ∷ t ∷ ss) =
@@ -142,7 +142,7 @@ pub record LastRecord (b : Board) (es : List (List ℕ)) (ts : List ℕ) (time :
 
 last_record : (b : Board) (e : List ℕ) (es : List (List ℕ)) (t : ℕ) (ts : List ℕ) (time : ℕ) (before : List ℕ) → length es ≡ length ts → t ≤ time → Ascending t ts
     → LastRecord b (e ∷ es) (t ∷ ts) time (last_by time before (shots_of b (e ∷ es) (t ∷ ts)))
-unfolding shots_of steps_of if◌then◌else◌
+unfolding shots_of steps_of
 last_record b e [] t [] time before h reached a =
     record { k = 0; last = last_here t [] time reached (λ i small. absurd (omega arith)); same = rw (le-leb t time reached) }
 last_record b e [] t (u ∷ us) time before h reached a = absurd (omega (arith, h))

@@ -1,4 +1,5 @@
 -- What a viewer reads in the text of an accepted export. Assumes nothing.
+use Rattle.std.specs.Prelude.{if◌then◌else◌}
 use mathlib.Core.Path.{◌≡◌, refl, sym, ap, ◌∙◌}
 use mathlib.Core.Bool.{Bool, true, false, not}
 use mathlib.Core.List.{List, [], ◌∷◌, ◌++◌}
@@ -8,7 +9,7 @@ use lib.Dec.{ltb}
 use lib.ListN.{length, length-map, get_or, get_or-replicate, take}
 use lib.Seq.{take-append_seam}
 use borrow.Author.Tests.{eqb-true}
-use Rattle.bits.specs.Bits.{if◌then◌else◌, ◌is◌}
+use Rattle.bits.specs.Bits.{◌is◌}
 use Rattle.bits.proofs.Logic.{by_cases}
 use Rattle.buffers.specs.Splice.{splice}
 use Rattle.board.specs.declared.Board.{Board}
@@ -90,7 +91,7 @@ stamped sound events stamps text room e =
     eqb-true stamps (2 * (events / 4)) (on _ (none_true (not sound) (not (events % 4 is 0)) (ltb 16384 (events / 4)) (not (stamps is 2 * (events / 4))) (ltb room text) e))
 
 accepted : (b : Board) (events stamps : List ℕ) (room : ℕ) → (exported_of b events stamps room).code ≡ 0 → wave_refusal b events stamps room ≡ 0
-unfolding exported_of if◌then◌else◌
+unfolding exported_of
 accepted b events stamps room e =
     by_cases (wave_refusal b events stamps room is 0)
     (λ z. eqb-true (wave_refusal b events stamps room) 0 z)
@@ -99,7 +100,7 @@ accepted b events stamps room e =
 -- and its text stands at the start of the buffer
 text_there : (b : Board) (events stamps old : List ℕ) → wave_refusal b events stamps (length old) ≡ 0
     → take (exported_of b events stamps (length old)).length (page_of b events stamps old) ≡ wave_text b events stamps
-unfolding exported_of page_of splice if◌then◌else◌
+unfolding exported_of page_of splice
 text_there b events stamps old e = rw e (take-append_seam (wave_text b events stamps) _)
 
 pub export_reads : ExportReads

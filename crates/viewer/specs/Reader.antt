@@ -1,7 +1,7 @@
 -- How a wave viewer reads a Value Change Dump (IEEE 1364): lines, the frames that they make, and the value that a line has at a time.
 -- Nothing here knows how the text is made. Assumes nothing.
-use Rattle.std.specs.Prelude.{List, [], ◌∷◌, ◌++◌, ℕ, zero, suc, ◌+◌, ◌-◌, ◌*◌, leb, get_or}
-use Rattle.bits.specs.Bits.{if◌then◌else◌, ◌is◌}
+use Rattle.std.specs.Prelude.{List, [], ◌∷◌, ◌++◌, ℕ, zero, suc, ◌+◌, ◌-◌, ◌*◌, leb, get_or, if◌then◌else◌}
+use Rattle.bits.specs.Bits.{◌is◌}
 use Rattle.frames.specs.Frames.{time_line, value_line}
 
 -- ---- "Lines, each ended by a newline". Bytes after the last newline are no line.

@@ -1,4 +1,5 @@
 -- A file that is longer than its buffer is refused as by its own length. Assumes nothing.
+use Rattle.std.specs.Prelude.{if◌then◌else◌}
 use mathlib.Core.Path.{◌≡◌, refl, sym, ap, ◌∙◌}
 use mathlib.Core.Bool.{Bool, true, false, not, false≢true}
 use mathlib.Core.List.{List, [], ◌∷◌, ◌++◌}
@@ -9,7 +10,7 @@ use lib.Dec.{ltb}
 use lib.ListN.{length, take}
 use lib.Seq.{length-take-le, take_at}
 use borrow.Author.Tests.{ne_eqb, lt-ltb, le-ltb, ltb-true, ltb-false}
-use Rattle.bits.specs.Bits.{if◌then◌else◌, ◌is◌}
+use Rattle.bits.specs.Bits.{◌is◌}
 use Rattle.bits.proofs.Logic.{by_cases}
 use Rattle.bits.proofs.Tests.{if_off}
 use Rattle.board.specs.declared.Board.{Board}
@@ -19,19 +20,19 @@ use Rattle.recording.specs.Wave.{wave_text, refusal_of, wave_refusal, exported_o
 use Rattle.wave.specs.Text.{kept_of, next_at, count_of, total, SameBefore, wave_of, events_limit, stamps_limit, ReadInParts, ByOwnLength}
 
 pub short : (limit n : ℕ) → n < limit → n ≡ kept_of limit n
-unfolding kept_of if◌then◌else◌
+unfolding kept_of
 short limit n h = rw (lt-ltb n limit h)
 
 pub long : (limit n : ℕ) → limit ≤ n → limit + n % 4 ≡ kept_of limit n
-unfolding kept_of if◌then◌else◌
+unfolding kept_of
 long limit n h = rw (le-ltb n limit h)
 
 pub behind : (limit n : ℕ) → n < limit → n ≡ next_at limit n
-unfolding next_at if◌then◌else◌
+unfolding next_at
 behind limit n h = rw (lt-ltb n limit h)
 
 pub start : (limit n : ℕ) → limit ≤ n → 0 ≡ next_at limit n
-unfolding next_at if◌then◌else◌
+unfolding next_at
 start limit n h = rw (le-ltb n limit h)
 
 -- a part `&mut old[at..]` was lent

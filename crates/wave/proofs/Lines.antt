@@ -1,11 +1,11 @@
 -- The laws of a refusal's line. Assumes nothing.
+use Rattle.std.specs.Prelude.{if◌then◌else◌}
 use mathlib.Core.Path.{◌≡◌}
 use mathlib.Core.List.{List, append-nil}
 use Prim.Native.Nat.{ℕ, ◌≤◌}
 use native.Mathlib.Omega.{arith}
 use lib.ListN.{length}
 use borrow.Author.Tests.{ne_eqb}
-use Rattle.bits.specs.Bits.{if◌then◌else◌}
 use Rattle.buffers.specs.Splice.{if_room, Wrote}
 use Rattle.buffers.specs.Digits.{digits_of}
 use Rattle.buffers.specs.Rows.{row_of}
@@ -22,6 +22,6 @@ said {old} {m} {text} {n} {code} number is line room short w =
 -- a number with no words
 pub unsaid : (code : ℕ) → (code ≡ 33 → ⊥) → (code ≡ 35 → ⊥) → (code ≡ 32 → ⊥) → (code ≡ 36 → ⊥) → (code ≡ 41 → ⊥) → (code ≡ 40 → ⊥)
     → refused_of code ≡ refusal_line code
-unfolding refusal_line words_of row_of if◌then◌else◌
+unfolding refusal_line words_of row_of
 unsaid code a b c d e f =
     rw (ne_eqb code 33 a, ne_eqb code 35 b, ne_eqb code 32 c, ne_eqb code 36 d, ne_eqb code 41 e, ne_eqb code 40 f, append-nil (digits_of code))

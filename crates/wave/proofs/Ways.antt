@@ -1,4 +1,5 @@
 -- The ways out of `make_text`, and the refusal that never comes. Assumes nothing.
+use Rattle.std.specs.Prelude.{if◌then◌else◌}
 use mathlib.Core.Path.{◌≡◌, refl}
 use mathlib.Core.Bool.{Bool, true, false, not}
 use mathlib.Core.List.{List, [], ◌∷◌}
@@ -7,7 +8,7 @@ use native.Mathlib.Omega.{arith}
 use lib.Dec.{ltb}
 use lib.ListN.{length}
 use borrow.Author.Tests.{eq-eqb, ne_eqb, eqb-true, ltb-false}
-use Rattle.bits.specs.Bits.{if◌then◌else◌, ◌is◌}
+use Rattle.bits.specs.Bits.{◌is◌}
 use Rattle.bits.proofs.Logic.{by_cases}
 use Rattle.board.specs.declared.Board.{Board}
 use Rattle.board.specs.declared.Made.{Made}
@@ -29,7 +30,7 @@ none false false false false true e = absurd (omega (arith, e))
 none false false false false false e = refl
 
 fits : (b : Board) (events stamps : List ℕ) (room : ℕ) → (exported_of b events stamps room).length ≤ room
-unfolding exported_of refusal_of if◌then◌else◌
+unfolding exported_of refusal_of
 fits b events stamps room =
     let long = length (wave_text b events stamps) in
     by_cases (wave_refusal b events stamps room is 0)
@@ -41,12 +42,12 @@ module _ (size : ℕ) (events stamps old : List ℕ) (made : Made) (e : made ≡
   Out r out = (r ≡ wave_of size events stamps (length old)) × ((out ≡ buffer_of size events stamps old) × (r.length ≤ length old))
 
   pub no_board : (made.code ≡ 0 → ⊥) → Out (record { code = made.code; length = 0 }) old
-  unfolding wave_of buffer_of if◌then◌else◌
+  unfolding wave_of buffer_of
   no_board z = (rw (← e, ne_eqb made.code 0 z), (rw (← e, ne_eqb made.code 0 z), omega arith))
 
   pub exported : {done : Exported} {out : List ℕ} → made.code ≡ 0 → done ≡ exported_of made.board events stamps (length old)
       → out ≡ page_of made.board events stamps old → Out (code_and_length done) out
-  unfolding wave_of buffer_of if◌then◌else◌
+  unfolding wave_of buffer_of
   exported {done} {out} z d p =
       (rw (← e, eq-eqb made.code 0 z, d), (rw (← e, eq-eqb made.code 0 z, p), rw d (fits made.board events stamps (length old))))
 
@@ -57,7 +58,7 @@ many false true l e = absurd (omega (arith, e))
 many false false l e = absurd (omega (arith, e))
 
 roomy : (b : Board) (events stamps : List ℕ) → (exported_of b events stamps 639233).code ≡ 40 → ⊥
-unfolding exported_of refusal_of if◌then◌else◌
+unfolding exported_of refusal_of
 roomy b events stamps e =
     by_cases (ltb 16384 (length events / 4))
     (λ z.
@@ -67,7 +68,7 @@ roomy b events stamps e =
     (λ z. never_forty b events stamps 639233 (omega (arith, ltb-false 16384 (length events / 4) z)) e)
 
 pub never : (size : ℕ) (events stamps : List ℕ) → (wave_of size events stamps 639233).code ≡ 40 → ⊥
-unfolding wave_of fresh_of if◌then◌else◌
+unfolding wave_of fresh_of
 never size events stamps e =
     by_cases (size_ok size)
     (λ z. roomy (blank_board size) events stamps (rw z at e))

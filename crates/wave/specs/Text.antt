@@ -1,8 +1,8 @@
 -- What the wave program makes of its two files and the size that it is asked for, and the line with which it refuses: docs/FORMATS.md,
 -- "The wave".
 -- Assumes nothing.
-use Rattle.std.specs.Prelude.{◌≡◌, List, [], ◌∷◌, ◌++◌, ℕ, ◌+◌, ◌%◌, ◌<◌, ltb, length, take}
-use Rattle.bits.specs.Bits.{if◌then◌else◌, ◌is◌}
+use Rattle.std.specs.Prelude.{◌≡◌, List, [], ◌∷◌, ◌++◌, ℕ, ◌+◌, ◌%◌, ◌<◌, ltb, length, take, if◌then◌else◌}
+use Rattle.bits.specs.Bits.{◌is◌}
 use Rattle.buffers.specs.Text.{ascii}
 use Rattle.buffers.specs.Digits.{digits_of}
 use Rattle.board.specs.Board.{fresh_of}

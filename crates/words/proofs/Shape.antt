@@ -1,13 +1,14 @@
 -- What a control word does to the registers' half of soundness: a word that was heard fits the port, and a port that obeys it keeps
 -- the four facts.
 -- Assumes nothing.
+use Rattle.std.specs.Prelude.{if◌then◌else◌}
 use mathlib.Core.Path.{◌≡◌, refl}
 use mathlib.Core.Bool.{Bool, true, false, ◌&&◌, ◌||◌, not}
 use Prim.Native.Nat.{ℕ, ◌/◌, ◌%◌}
 use native.Mathlib.Omega.{arith}
 use lib.Dec.{ltb}
 use borrow.Author.Tests.{lt-ltb, ltb-true}
-use Rattle.bits.specs.Bits.{if◌then◌else◌, ◌is◌}
+use Rattle.bits.specs.Bits.{◌is◌}
 use Rattle.port.specs.Sound.{mode_ok, vector_ok, enable_ok, await_ok}
 use Rattle.port.specs.declared.Port.{Port}
 use Rattle.words.specs.Words.{heard_of, obeyed}
@@ -33,7 +34,6 @@ await_none mode true = refl
 await_none mode false = refl
 
 await_mode : (three live : Bool) → (ltb (if three then 1 else 0) 3 && (not ((if three then 1 else 0) is 1) || three) && not (live && ((if three then 1 else 0) is 2))) ≡ true
-unfolding if◌then◌else◌
 await_mode true true = refl
 await_mode true false = refl
 await_mode false true = refl
@@ -51,7 +51,6 @@ fits onB NoForm = true
 fits onB NotOnB = true
 
 pub word_fits : (awaiting : ℕ) (onB : Bool) (v : ℕ) → ltb v 256 ≡ true → fits onB (heard_of awaiting onB v) ≡ true
-unfolding if◌then◌else◌
 word_fits awaiting onB v byte =
     by_cases (awaiting is 1) (λ e. rw e) (λ e. rw e
     (by_cases (awaiting is 2) (λ e. rw e) (λ e. rw e
@@ -62,7 +61,6 @@ word_fits awaiting onB v byte =
     (by_cases (v % 16 is 3) (λ e. rw e) (λ e. rw e)))))))))))
 
 pub obeyed_facts : (onB linked : Bool) (p : Port) (w : Word) → fits onB (Said w) ≡ true → Facts onB p → Facts onB (obeyed linked p w)
-unfolding if◌then◌else◌
 obeyed_facts onB linked p (Vector v) f h = (h.0, f, h.2, h.3)
 obeyed_facts onB linked p (Mode m) f h = (f, h.1, h.2, await_mode (m is 3) p.live)
 obeyed_facts onB linked p (Interrupt on all high true) f h = (h.0, h.1, refl, refl)

@@ -1,7 +1,7 @@
 -- Document 01, "Control words": what a control byte means to a port, and what the port does with it.
 -- Assumes nothing.
-use Rattle.std.specs.Prelude.{ℕ, ◌/◌, ◌%◌, Bool, false, ◌&&◌}
-use Rattle.bits.specs.Bits.{if◌then◌else◌, ◌is◌, bit}
+use Rattle.std.specs.Prelude.{ℕ, ◌/◌, ◌%◌, Bool, false, ◌&&◌, if◌then◌else◌}
+use Rattle.bits.specs.Bits.{◌is◌, bit}
 use Rattle.port.specs.Fields.{mode_at, ready_at, vector_at, select_at, mask_at, all_at, high_at, asked_at, live_at, waiting_at, awaiting_at}
 use Rattle.port.specs.declared.Port.{Port}
 use Rattle.words.specs.declared.Word.{Word}

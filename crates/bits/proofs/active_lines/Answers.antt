@@ -1,12 +1,10 @@
 -- `bits::active_lines` answers its lines, turned over where Low is the active level.
 -- Assumes nothing.
-use Rattle.bits.specs.Bits.{if◌then◌else◌}
+use Rattle.std.specs.Prelude.{if◌then◌else◌}
 use Rattle.bits.proofs.active_lines.Goals as goal
 
 pub returns-then-high : goal.returns-then-high
-unfolding if◌then◌else◌
 returns-then-high c = rw c.if-high.true
 
 pub returns-else-high : goal.returns-else-high
-unfolding if◌then◌else◌
 returns-else-high c = rw c.if-high.false

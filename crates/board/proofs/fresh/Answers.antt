@@ -1,12 +1,12 @@
 -- `board::fresh` meets its contract: a size that a board has, and one that none has.
 -- Assumes nothing.
+use Rattle.std.specs.Prelude.{if◌then◌else◌}
 use mathlib.Core.Path.{◌≡◌}
 use mathlib.Core.Bool.{true, false}
 use Prim.Native.Nat.{ℕ, ◌≤◌, ◌<◌}
 use native.Mathlib.Omega.{arith}
 use lib.ListN.{replicate}
 use borrow.Author.Tests.{le-leb, lt-leb}
-use Rattle.bits.specs.Bits.{if◌then◌else◌}
 use Rattle.chip.specs.declared.Chip.{Chip}
 use Rattle.chip.specs.Chip.{chip_fresh}
 use Rattle.chain.specs.Chain.{most}
@@ -16,11 +16,11 @@ use Rattle.board.specs.Board.{size_ok, fresh_of}
 use Rattle.board.proofs.fresh.Goals as goal
 
 refused : (n : ℕ) (c : Chip) → c ≡ chip_fresh → size_ok n ≡ false → ◌≡◌ {A = Made} (record { code = 33; board = record { size = 0; chips = replicate most c; decoder = shut } }) (fresh_of n)
-unfolding fresh_of if◌then◌else◌
+unfolding fresh_of
 refused n c e h = rw (e, h)
 
 given : (n : ℕ) (c : Chip) → c ≡ chip_fresh → size_ok n ≡ true → ◌≡◌ {A = Made} (record { code = 0; board = record { size = n; chips = replicate most c; decoder = shut } }) (fresh_of n)
-unfolding fresh_of if◌then◌else◌
+unfolding fresh_of
 given n c e h = rw (e, h)
 
 none : (n : ℕ) → n ≡ 0 → size_ok n ≡ false

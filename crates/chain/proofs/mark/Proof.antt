@@ -1,10 +1,10 @@
 -- `chain::mark` meets its contract: the choices give the mark, whatever the four bits are.
 -- Assumes nothing.
+use Rattle.std.specs.Prelude.{if◌then◌else◌}
 use mathlib.Core.Path.{◌≡◌, refl}
 use mathlib.Core.Bool.{Bool, true, false, ◌&&◌}
 use Prim.Native.Nat.{ℕ, ◌+◌, ◌*◌}
 use borrow.Author.Rules.{rules}
-use Rattle.bits.specs.Bits.{if◌then◌else◌}
 use Rattle.chip.specs.declared.Chip.{Chip}
 use Rattle.chain.specs.Marks.{mark_of}
 use Rattle.chain.proofs.mark.Statement.{statement}
@@ -15,7 +15,6 @@ digit :
     (s r t u : Bool)
     → (if s then 7 else if r then (if t then 9 else 1) else if t then 11 else if u then 2 else 0)
     ≡ (if s then 3 else if r then 1 else if t then 3 else if u then 2 else 0) + 4 * (if s then 1 else if t then 2 else 0)
-unfolding if◌then◌else◌
 digit true r t u = refl
 digit false true true u = refl
 digit false true false u = refl

@@ -1,10 +1,10 @@
 -- `rest::settle` meets its contract: what `matching` answers is the match now, and the branch says which byte the input register holds.
 -- Assumes nothing.
+use Rattle.std.specs.Prelude.{if◌then◌else◌}
 use mathlib.Core.Path.{◌≡◌}
 use mathlib.Core.Bool.{Bool, ◌&&◌, ◌||◌, not}
 use Prim.Native.Nat.{ℕ}
 use borrow.Author.Rules.{rules}
-use Rattle.bits.specs.Bits.{if◌then◌else◌}
 use Rattle.bits.proofs.Tests.{tests}
 use Rattle.port.specs.Fields.{input_at, waiting_at, matched_at}
 use Rattle.port.specs.Rules.{match_now, settled}
