@@ -3,7 +3,7 @@
 # tables with a hash of the bytes as the floor.
 set -eu
 cd "$(dirname "$0")/.."
-[ -f target/staticlib/libpio.a ] || rt staticlib pio
+[ -f target/staticlib/libpio.a ] || tests/library.sh >&2
 export PIO_LIB_DIR="$PWD/target/staticlib"
 cargo build --quiet --release --offline --manifest-path rival/Cargo.toml --features library
 exec rival/target/release/rival bench
