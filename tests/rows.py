@@ -36,8 +36,8 @@ PROOFS_HEAD = """\
 -- Every row of specs/Sessions.antt, by computation. Written by tests/rows.py: one link of the chain for each row, so that a refusal
 -- names the rows that fail.
 -- Assumes nothing.
+use Rattle.std.specs.Prelude.{if◌then◌else◌}
 use mathlib.Core.Path.{refl}
-use Rattle.bits.specs.Bits.{if◌then◌else◌}
 use Rattle.bits.specs.Lines.{match_of, mixed_of, levels_of}
 use Rattle.port.specs.Rules.{match_now}
 use Rattle.chip.specs.Sound.{sound_chip}
@@ -50,7 +50,7 @@ use Rattle.sessions.specs.Sessions.{rows}
 use Rattle.sessions.proofs.Rows.{Each, none, ◌also◌}
 
 pub each_row : Each rows
-unfolding if◌then◌else◌ match_of mixed_of levels_of match_now sound_chip event_of acknowledged retired next_of reti_of sound_board fresh_of request_of lines_of refusal doing_of taken accepted refused step_of
+unfolding match_of mixed_of levels_of match_now sound_chip event_of acknowledged retired next_of reti_of sound_board fresh_of request_of lines_of refusal doing_of taken accepted refused step_of
 each_row =
 """
 WORDS = ("bytes reset fetch acknowledge control write read strobe_to lines_to ◌gives◌ ◌≔◌ some every Row session "
