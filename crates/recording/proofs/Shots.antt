@@ -59,7 +59,7 @@ flag_new false = refl
 readies_new : (n character : ℕ) (ps : List Port) → changed_lines character (replicate n 2) (readies n ps) ≡ all_lines character (readies n ps)
 unfolding changed_lines all_lines
 readies_new zero character ps = refl
-readies_new (suc n) character [] = rw (if_off (0 is 2) _ _ refl, readies_new n (suc character) [])
+readies_new (suc n) character [] = rw (readies_new n (suc character) [])
 readies_new (suc n) character (p ∷ ps) = rw (if_off (flag p.ready is 2) _ _ (flag_new p.ready), readies_new n (suc character) ps)
 
 values_new : (size : ℕ) (chips : List Chip) (request : ℕ) → changed_lines identifier unseen (values_of size chips request) ≡ all_lines identifier (values_of size chips request)
