@@ -1,6 +1,5 @@
 -- A piece of the input: its whole records are run, and the buffer of answers then holds what the listing's text is made of.
 -- Assumes nothing.
-use Rattle.std.specs.Prelude.{if◌then◌else◌}
 use Rattle.std.proofs.Common.{◌≡◌, ℕ, suc, ◌+◌, ◌*◌, ◌/◌, ◌%◌, ◌≤◌, true, List, [], ◌∷◌, length, get_or, take, drop, refl, ap, ◌∙◌, arith, length-take-le, take_at, w8, Fits, le-ltb, lt-ltb, eq-eqb}
 use Rattle.buffers.specs.Splice.{splice, if_room, Wrote}
 use Rattle.buffers.proofs.Splices.{wrote_all, wrote_then, wrote_length}

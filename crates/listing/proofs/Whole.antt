@@ -1,5 +1,4 @@
 -- A listing made piece by piece, as the program makes it, is the listing of the whole input. Assumes nothing.
-use Rattle.std.specs.Prelude.{if◌then◌else◌}
 use Rattle.std.proofs.Common.{◌≡◌, ℕ, ◌+◌, ◌/◌, ◌%◌, ◌^◌, ◌<◌, List, ◌++◌, length, refl, append_assoc, append-nil}
 use Rattle.board.specs.declared.Board.{Board}
 use Rattle.board.specs.Step.{step_of}

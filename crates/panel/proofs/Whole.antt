@@ -1,5 +1,4 @@
 -- The panel's text made piece by piece, as the program makes it, is that of the whole input. Assumes nothing.
-use Rattle.std.specs.Prelude.{if◌then◌else◌}
 use Rattle.std.proofs.Common.{◌≡◌, ℕ, ◌+◌, ◌/◌, ◌%◌, ◌^◌, ◌<◌, List, ◌++◌, length, refl, append_assoc}
 use Rattle.board.specs.declared.Board.{Board}
 use Rattle.board.specs.Step.{step_of}

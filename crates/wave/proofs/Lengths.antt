@@ -1,5 +1,4 @@
 -- A file that is longer than its buffer is refused as by its own length. Assumes nothing.
-use Rattle.std.specs.Prelude.{if◌then◌else◌}
 use mathlib.Core.Path.{◌≡◌, refl, sym, ap, ◌∙◌}
 use mathlib.Core.Bool.{Bool, true, false, not, false≢true}
 use mathlib.Core.List.{List, [], ◌∷◌, ◌++◌}

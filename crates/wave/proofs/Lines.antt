@@ -1,5 +1,4 @@
 -- The laws of a refusal's line. Assumes nothing.
-use Rattle.std.specs.Prelude.{if◌then◌else◌}
 use mathlib.Core.Path.{◌≡◌}
 use mathlib.Core.List.{List, append-nil}
 use Prim.Native.Nat.{ℕ, ◌≤◌}

@@ -1,5 +1,4 @@
 -- `wave::put_refusal` meets its contract. Assumes nothing.
-use Rattle.std.specs.Prelude.{if◌then◌else◌}
 use Rattle.std.proofs.Common.{refl, arith}
 use Rattle.buffers.specs.Digits.{digits_up, digits_of}
 use Rattle.buffers.proofs.Splices.{wrote_all}
