@@ -1,5 +1,4 @@
 -- The rule of the digits, and how many there are. Assumes nothing.
-use Rattle.std.specs.Prelude.{if◌then◌else◌}
 use mathlib.Core.Path.{◌≡◌, ap, ◌∙◌}
 use mathlib.Core.Logic.{⊎_elim}
 use mathlib.Core.List.{[], ◌∷◌, ◌++◌}

@@ -1,5 +1,4 @@
 -- The laws of `splice`, `if_room` and `Wrote`: what a writer's proof cites, and its callers', whatever is written. Assumes nothing.
-use Rattle.std.specs.Prelude.{if◌then◌else◌}
 use mathlib.Core.Path.{◌≡◌, refl, sym, ap, ◌∙◌}
 use mathlib.Core.List.{List, [], ◌∷◌, ◌++◌, append_assoc, append-nil}
 use Prim.Native.Nat.{ℕ, ◌+◌, ◌-◌, ◌≤◌, ◌<◌}

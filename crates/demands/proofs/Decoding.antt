@@ -1,6 +1,5 @@
 -- The observer's decoder, over the bytes fetched, and the product's, over what it remembers, say the same.
 -- Assumes nothing.
-use Rattle.std.specs.Prelude.{if◌then◌else◌}
 use mathlib.Core.Path.{◌≡◌}
 use mathlib.Core.Bool.{not, and-false}
 use mathlib.Core.List.{List, ◌∷◌}

@@ -1,6 +1,5 @@
 -- What the demands read off the ports in their own words is what the chain's definitions say.
 -- Assumes nothing.
-use Rattle.std.specs.Prelude.{if◌then◌else◌}
 use mathlib.Core.Path.{◌≡◌, refl}
 use mathlib.Core.Bool.{◌&&◌}
 use mathlib.Core.List.{List, [], ◌∷◌, map, reverse, reverse-cons}

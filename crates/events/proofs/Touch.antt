@@ -1,6 +1,5 @@
 -- What events of one place leave alone: service; and words the input register too.
 -- Assumes nothing.
-use Rattle.std.specs.Prelude.{if◌then◌else◌}
 use mathlib.Core.Path.{◌≡◌, refl}
 use mathlib.Core.Bool.{Bool, true, false}
 use Rattle.port.specs.declared.Port.{Port}

@@ -1,7 +1,6 @@
 -- What each way out of the events' functions gives, of any values: `search` finds the premises among what the calls ensure and
 -- what the branches tell.
 -- Assumes nothing.
-use Rattle.std.specs.Prelude.{if◌then◌else◌}
 use mathlib.Core.Path.{◌≡◌, refl}
 use mathlib.Core.Bool.{Bool, true, false, ◌&&◌, ◌||◌, beq}
 use mathlib.Core.List.{[], ◌∷◌}

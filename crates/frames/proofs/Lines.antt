@@ -1,6 +1,5 @@
 -- The nine values, chip by chip.
 -- Assumes nothing.
-use Rattle.std.specs.Prelude.{if◌then◌else◌}
 use Rattle.std.proofs.Common.{◌≡◌, ℕ, zero, suc, not, ◌&&◌, ltb, List, [], ◌∷◌, length, get_or, refl, arith, lt-ltb}
 use Rattle.bits.specs.Bits.{◌is◌}
 use Rattle.chip.specs.declared.Chip.{Chip}

@@ -1,5 +1,4 @@
 -- The definition of the text at work: the readings of Ask 1 in document 02, worked out on fresh boards. Assumes nothing.
-use Rattle.std.specs.Prelude.{if◌then◌else◌}
 use mathlib.Core.Path.{◌≡◌, refl}
 use mathlib.Core.List.{List, [], ◌∷◌, ◌++◌, map}
 use Prim.Native.Nat.{ℕ, ◌/◌, ◌%◌}

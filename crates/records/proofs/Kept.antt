@@ -1,7 +1,6 @@
 -- What the run's locals keep beside the board: that it is sound, its marks, its request, and whether a fetch could change it. Each of
 -- the three ways that a record goes is the step, and keeps all of it.
 -- Assumes nothing.
-use Rattle.std.specs.Prelude.{if◌then◌else◌}
 use mathlib.Core.Path.{◌≡◌, refl, sym, ap, ap₂, subst, ◌∙◌}
 use mathlib.Core.Bool.{Bool, true, false, ◌&&◌, ◌||◌, not, true≢false}
 use mathlib.Core.List.{List, [], ◌∷◌, map}

@@ -1,8 +1,7 @@
 -- The run's short way for an event of kinds 3 to 7: its chip is changed as the chip's event says, and the marks, the request and
 -- `due` follow.
 -- Assumes nothing.
-use Rattle.std.specs.Prelude.{if◌then◌else◌}
-use mathlib.Core.Path.{◌≡◌, refl, sym, ap, ◌∙◌}
+use mathlib.Core.Path.{◌≡◌, refl, ap, ◌∙◌}
 use mathlib.Core.Bool.{Bool, true, ◌||◌}
 use mathlib.Core.List.{List, [], ◌∷◌}
 use Prim.Native.Nat.{ℕ, zero, suc, ◌+◌, ◌-◌, ◌*◌, ◌/◌, ◌%◌, ◌≤◌, ◌<◌}
@@ -13,7 +12,6 @@ use lib.Seq.{get_or-take, get_or-set_same}
 use borrow.Author.Tests.{eq-eqb, ne_eqb}
 use Rattle.bits.specs.Bits.{◌is◌}
 use Rattle.bits.proofs.Logic.{both}
-use Rattle.bits.proofs.Tests.{if_on}
 use Rattle.chip.specs.declared.Chip.{Chip}
 use Rattle.chip.specs.Chip.{side}
 use Rattle.chip.specs.Sound.{sound_chip}

@@ -1,6 +1,5 @@
 -- The ways out of `refusal` and of `run`.
 -- Assumes nothing.
-use Rattle.std.specs.Prelude.{if◌then◌else◌}
 use mathlib.Core.Path.{◌≡◌, ap, ◌∙◌}
 use mathlib.Core.Bool.{Bool, true, false}
 use mathlib.Core.List.{List}

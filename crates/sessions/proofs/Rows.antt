@@ -1,6 +1,5 @@
 -- How the theorems of single rows make that of all of them.
 -- Assumes nothing.
-use Rattle.std.specs.Prelude.{if◌then◌else◌}
 use mathlib.Core.Path.{◌≡◌, refl}
 use mathlib.Core.Bool.{true}
 use mathlib.Core.List.{List, [], ◌∷◌}

@@ -1,6 +1,5 @@
 -- Every slip is missed, by computation.
 -- Assumes nothing.
-use Rattle.std.specs.Prelude.{if◌then◌else◌}
 use mathlib.Core.Path.{refl}
 use Rattle.bits.specs.Lines.{match_of, mixed_of, levels_of}
 use Rattle.port.specs.Rules.{match_now}

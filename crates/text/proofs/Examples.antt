@@ -1,5 +1,4 @@
 -- The definitions of the text at work. Assumes nothing.
-use Rattle.std.specs.Prelude.{if◌then◌else◌}
 use Rattle.std.proofs.Common.{◌≡◌, ℕ, [], ◌∷◌, length, refl}
 use Rattle.port.specs.declared.Port.{Port}
 use Rattle.buffers.specs.Text.{ascii}

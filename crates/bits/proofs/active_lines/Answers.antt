@@ -1,6 +1,5 @@
 -- `bits::active_lines` answers its lines, turned over where Low is the active level.
 -- Assumes nothing.
-use Rattle.std.specs.Prelude.{if◌then◌else◌}
 use Rattle.bits.proofs.active_lines.Goals as goal
 
 pub returns-then-high : goal.returns-then-high

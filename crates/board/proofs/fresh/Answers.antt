@@ -1,6 +1,5 @@
 -- `board::fresh` meets its contract: a size that a board has, and one that none has.
 -- Assumes nothing.
-use Rattle.std.specs.Prelude.{if◌then◌else◌}
 use mathlib.Core.Path.{◌≡◌}
 use mathlib.Core.Bool.{true, false}
 use Prim.Native.Nat.{ℕ, ◌≤◌, ◌<◌}
