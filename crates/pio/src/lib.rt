@@ -1,6 +1,7 @@
 // The board is lent: each function takes a board that stays where its caller keeps it, calls the functions on values and stores what
-// they give. Document 01, "The board is lent to the step and altered there". The functions whose names begin with pio_ are for C and
-// Rust to link; include/pio.h says in words what each answers and refuses, and specs/Calls.antt what it promises.
+// they give. Document 01, "The board is lent to the step and altered there". The functions whose names begin with pio_ are what C and
+// Rust link, by the names that pio_c gives them; include/pio.h says in words what each answers and refuses, and specs/Calls.antt what it
+// promises.
 #![tactic(auto)]
 
 ghost use Rattle.std.specs.Prelude.{◌≡◌, leb, length};
@@ -11,8 +12,7 @@ ghost use Rattle.pio.specs.Calls.{FreshCall, StepCall, RunCall, WaveCall, LinesC
 use board::{Answer, Board};
 
 // A fresh board of `size` chips; 33 and a board of size 0 for a size that no board has.
-#[unsafe(no_mangle)]
-pub extern "C" fn pio_fresh(board: &mut Board, size: usize) -> u8
+pub fn pio_fresh(board: &mut Board, size: usize) -> u8
     ensures { FreshCall size result board.new }
 {
     let m = board::fresh(size);
@@ -37,8 +37,7 @@ fn put_answer(out: &mut [u8], a: Answer) -> u8
 }
 
 // One step, with its answer's four bytes at the start of `answer`. A shorter buffer is refused with 34 before all else.
-#[unsafe(no_mangle)]
-pub extern "C" fn pio_step(board: &mut Board, event: &[u8], answer: &mut [u8]) -> u8
+pub fn pio_step(board: &mut Board, event: &[u8], answer: &mut [u8]) -> u8
     ensures { StepCall board.old event.now answer.old result board.new answer.new }
 {
     if has_room(answer.len(), 4) {
@@ -50,8 +49,7 @@ pub extern "C" fn pio_step(board: &mut Board, event: &[u8], answer: &mut [u8]) -
 }
 
 // A run over the records of `events`, their answers from the record `start` of `answers` on, and their number in `records`.
-#[unsafe(no_mangle)]
-pub extern "C" fn pio_run(
+pub fn pio_run(
     board: &mut Board,
     events: &[u8],
     answers: &mut [u8],
@@ -67,8 +65,7 @@ pub extern "C" fn pio_run(
 }
 
 // The text of a recording at the start of `text`, and its length in `written`.
-#[unsafe(no_mangle)]
-pub extern "C" fn pio_wave(
+pub fn pio_wave(
     board: &mut Board,
     events: &[u8],
     stamps: &[u8],
@@ -99,8 +96,7 @@ fn put_lines(board: Board, place: usize, out: &mut [u8]) -> u8
 }
 
 // The lines driven at a place: two bytes at the start of `lines`.
-#[unsafe(no_mangle)]
-pub extern "C" fn pio_lines(board: &Board, place: usize, lines: &mut [u8]) -> u8
+pub fn pio_lines(board: &Board, place: usize, lines: &mut [u8]) -> u8
     ensures { LinesCall board.now place lines.old result lines.new }
 {
     put_lines(*board, place, lines)
