@@ -4,8 +4,6 @@ use Rattle.std.proofs.Common.{◌≡◌, true, false, length, sym, ap, ◌∙◌
 use lib.Dec.{leb}
 use Rattle.board.specs.declared.Stepped.{Stepped}
 use Rattle.board.specs.Step.{answer}
-use Rattle.records.specs.Records.{bytes_of}
-use Rattle.pio.specs.Lent.{lent_of, written}
 use Rattle.pio.proofs.Rooms.{with_room, without_room, nothing_written}
 use Rattle.pio.proofs.pio_step.Goals as goal
 
