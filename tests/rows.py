@@ -36,7 +36,6 @@ PROOFS_HEAD = """\
 -- Every row of specs/Sessions.antt, by computation. Written by tests/rows.py: one link of the chain for each row, so that a refusal
 -- names the rows that fail.
 -- Assumes nothing.
-use Rattle.std.specs.Prelude.{if◌then◌else◌}
 use mathlib.Core.Path.{refl}
 use Rattle.bits.specs.Lines.{match_of, mixed_of, levels_of}
 use Rattle.port.specs.Rules.{match_now}
