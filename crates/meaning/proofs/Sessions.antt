@@ -1,6 +1,5 @@
 -- What holds of a board after any session.
 -- Assumes nothing.
-use Rattle.std.specs.Prelude.{if◌then◌else◌}
 use mathlib.Core.Path.{◌≡◌, refl}
 use mathlib.Core.Bool.{Bool, true, false, ◌&&◌, not, beq, and-false}
 use mathlib.Core.List.{List, [], ◌∷◌}
