@@ -1,4 +1,4 @@
--- The words that all the definitions use: the choice between two values, and numbers as rows of bits.
+-- The words that all the definitions use: numbers as rows of bits.
 -- Assumes nothing.
 use Rattle.std.specs.Prelude.{ℕ, zero, suc, ◌+◌, ◌/◌, ◌%◌, ◌^◌, Bool, true, false, ◌&&◌, ◌||◌, eqb, if◌then◌else◌}
 

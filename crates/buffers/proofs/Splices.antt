@@ -74,7 +74,7 @@ sets_splice l i vs h = sets-eq vs l i h
 pub set_splice : (l : List ℕ) (i v : ℕ) → i < length l → set l i v ≡ splice l i (v ∷ [])
 set_splice l i v h = sets_splice l i (v ∷ []) (omega arith)
 
--- ---- ifRoom
+-- ---- if_room
 
 -- with room, the block
 pub room : (old : List ℕ) (at need : ℕ) (b : List ℕ) → at + need ≤ length old → if_room old at need b ≡ b

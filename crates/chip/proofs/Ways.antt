@@ -35,7 +35,7 @@ both_cleared c d x y e f h = rw (h, e, f)
 pub both_fresh : (p : Port) → p ≡ fresh_port → made p p ≡ chip_fresh
 both_fresh p e = rw e
 
--- ---- one port: B (`-b`) or A (`-a`)
+-- ---- one port: B (`_b`) or A (`_a`)
 pub port_b : (c : Chip) (s : Bool) → s ≡ true → c.b ≡ port (side s) c
 port_b c s e = rw e
 

@@ -28,7 +28,7 @@ use Rattle.events.specs.Act.{event_of, step_word, step, act_of, controlled_of}
 abbrev pub acted : Chip → ℕ → ℕ → Acted
 acted c n v = record { chip = c; code = n; value = v }
 
--- ---- one port: B (`-b`) or A (`-a`)
+-- ---- one port: B (`_b`) or A (`_a`)
 pub obey_b : (c : Chip) (s : Bool) (w : Word) (q : Port) → s ≡ true → q ≡ obeyed (c.a.mode is 2) c.b w → made c.a q ≡ obey (side s) w c
 obey_b c s w q e f = rw (e, f)
 

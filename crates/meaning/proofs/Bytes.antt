@@ -83,13 +83,13 @@ word_byte (Said (Mask v)) = ltb v 256
 word_byte NoForm = true
 word_byte NotOnB = true
 
-heard_byte : (awaiting : ℕ) (onB : Bool) (v : ℕ) → ltb v 256 ≡ true → word_byte (heard_of awaiting onB v) ≡ true
-heard_byte awaiting onB v h =
+heard_byte : (awaiting : ℕ) (on_b : Bool) (v : ℕ) → ltb v 256 ≡ true → word_byte (heard_of awaiting on_b v) ≡ true
+heard_byte awaiting on_b v h =
     by_cases (awaiting is 1) (λ e. rw e h) (λ e. rw e
     (by_cases (awaiting is 2) (λ e. rw e h) (λ e. rw e
     (by_cases (v % 2 is 0) (λ e. rw e h) (λ e. rw e
     (by_cases (v % 16 is 15) (λ e. rw e
-    (by_cases (onB && (v / 64 is 2)) (λ e. rw e) (λ e. rw e (lt-ltb (v / 64) 256 (omega (arith, ltb-true v 256 h)))))) (λ e. rw e
+    (by_cases (on_b && (v / 64 is 2)) (λ e. rw e) (λ e. rw e (lt-ltb (v / 64) 256 (omega (arith, ltb-true v 256 h)))))) (λ e. rw e
     (by_cases (v % 16 is 7) (λ e. rw e) (λ e. rw e
     (by_cases (v % 16 is 3) (λ e. rw e) (λ e. rw e)))))))))))
 

@@ -1,4 +1,4 @@
--- A Port with one field set: `NAME-at x p` is p with its field NAME at x, and every other field as in p.
+-- A Port with one field set: `NAME_at x p` is p with its field NAME at x, and every other field as in p.
 -- Assumes nothing.
 use Rattle.std.specs.Prelude.{ℕ, Bool}
 use Rattle.port.specs.declared.Port.{Port}

@@ -41,30 +41,30 @@ await_mode false false = refl
 
 -- ---- what a heard word may hold
 abbrev pub fits : Bool → Heard → Bool
-fits onB (Said (Vector v)) = vector_ok v
-fits onB (Said (Mode m)) = mode_ok onB m
-fits onB (Said (Interrupt on all high masked)) = true
-fits onB (Said (Enable on)) = true
-fits onB (Said (Select v)) = true
-fits onB (Said (Mask v)) = true
-fits onB NoForm = true
-fits onB NotOnB = true
+fits on_b (Said (Vector v)) = vector_ok v
+fits on_b (Said (Mode m)) = mode_ok on_b m
+fits on_b (Said (Interrupt on all high masked)) = true
+fits on_b (Said (Enable on)) = true
+fits on_b (Said (Select v)) = true
+fits on_b (Said (Mask v)) = true
+fits on_b NoForm = true
+fits on_b NotOnB = true
 
-pub word_fits : (awaiting : ℕ) (onB : Bool) (v : ℕ) → ltb v 256 ≡ true → fits onB (heard_of awaiting onB v) ≡ true
-word_fits awaiting onB v byte =
+pub word_fits : (awaiting : ℕ) (on_b : Bool) (v : ℕ) → ltb v 256 ≡ true → fits on_b (heard_of awaiting on_b v) ≡ true
+word_fits awaiting on_b v byte =
     by_cases (awaiting is 1) (λ e. rw e) (λ e. rw e
     (by_cases (awaiting is 2) (λ e. rw e) (λ e. rw e
     (by_cases (v % 2 is 0) (λ e. rw e e) (λ e. rw e
     (by_cases (v % 16 is 15) (λ e. rw e
-    (by_cases (onB && (v / 64 is 2)) (λ e. rw e) (λ e. rw e (join (ltb (v / 64) 4) (not (onB && (v / 64 is 2))) (lt-ltb (v / 64) 4 (omega (arith, ltb-true v 256 byte))) (rw e))))) (λ e. rw e
+    (by_cases (on_b && (v / 64 is 2)) (λ e. rw e) (λ e. rw e (join (ltb (v / 64) 4) (not (on_b && (v / 64 is 2))) (lt-ltb (v / 64) 4 (omega (arith, ltb-true v 256 byte))) (rw e))))) (λ e. rw e
     (by_cases (v % 16 is 7) (λ e. rw e) (λ e. rw e
     (by_cases (v % 16 is 3) (λ e. rw e) (λ e. rw e)))))))))))
 
-pub obeyed_facts : (onB linked : Bool) (p : Port) (w : Word) → fits onB (Said w) ≡ true → Facts onB p → Facts onB (obeyed linked p w)
-obeyed_facts onB linked p (Vector v) f h = (h.0, f, h.2, h.3)
-obeyed_facts onB linked p (Mode m) f h = (f, h.1, h.2, await_mode (m is 3) p.live)
-obeyed_facts onB linked p (Interrupt on all high true) f h = (h.0, h.1, refl, refl)
-obeyed_facts onB linked p (Interrupt on all high false) f h = (h.0, h.1, enable_on on p.live, await_less on p.awaiting p.mode p.live h.3)
-obeyed_facts onB linked p (Enable on) f h = (h.0, h.1, enable_on on p.live, await_less on p.awaiting p.mode p.live h.3)
-obeyed_facts onB linked p (Select v) f h = (h.0, h.1, h.2, await_none p.mode p.live)
-obeyed_facts onB linked p (Mask v) f h = (h.0, h.1, h.2, await_none p.mode p.live)
+pub obeyed_facts : (on_b linked : Bool) (p : Port) (w : Word) → fits on_b (Said w) ≡ true → Facts on_b p → Facts on_b (obeyed linked p w)
+obeyed_facts on_b linked p (Vector v) f h = (h.0, f, h.2, h.3)
+obeyed_facts on_b linked p (Mode m) f h = (f, h.1, h.2, await_mode (m is 3) p.live)
+obeyed_facts on_b linked p (Interrupt on all high true) f h = (h.0, h.1, refl, refl)
+obeyed_facts on_b linked p (Interrupt on all high false) f h = (h.0, h.1, enable_on on p.live, await_less on p.awaiting p.mode p.live h.3)
+obeyed_facts on_b linked p (Enable on) f h = (h.0, h.1, enable_on on p.live, await_less on p.awaiting p.mode p.live h.3)
+obeyed_facts on_b linked p (Select v) f h = (h.0, h.1, h.2, await_none p.mode p.live)
+obeyed_facts on_b linked p (Mask v) f h = (h.0, h.1, h.2, await_none p.mode p.live)

@@ -12,11 +12,11 @@ use Rattle.words.specs.declared.Heard.TheVariants.{Said, NoForm, NotOnB}
 -- A port awaiting select (1) or mask (2) takes the next control byte, of any value, as that register. Otherwise: bit 0 is 0,
 -- vector; low four bits 1111, mode from bits 7 and 6; 0111, interrupt control; 0011, enable from bit 7; the rest has no form.
 abbrev pub heard_of : ℕ → Bool → ℕ → Heard
-heard_of awaiting onB v =
+heard_of awaiting on_b v =
     if awaiting is 1 then Said (Select v) else
     if awaiting is 2 then Said (Mask v) else
     if v % 2 is 0 then Said (Vector v) else
-    if v % 16 is 15 then (if onB && (v / 64 is 2) then NotOnB else Said (Mode (v / 64))) else
+    if v % 16 is 15 then (if on_b && (v / 64 is 2) then NotOnB else Said (Mode (v / 64))) else
     if v % 16 is 7 then Said (Interrupt (bit 7 v) (bit 6 v) (bit 5 v) (bit 4 v)) else
     if v % 16 is 3 then Said (Enable (bit 7 v)) else
     NoForm
