@@ -1,13 +1,12 @@
 -- A file that is longer than its buffer is refused as by its own length. Assumes nothing.
 use mathlib.Core.Path.{◌≡◌, refl, sym, ap, ◌∙◌}
 use mathlib.Core.Bool.{Bool, true, false, not, false≢true}
-use mathlib.Core.List.{List, [], ◌∷◌, ◌++◌}
+use mathlib.Core.List.{List, [], ◌∷◌}
 use Prim.Native.Nat.{ℕ, ◌+◌, ◌*◌, ◌/◌, ◌%◌, ◌≤◌, ◌<◌}
 use native.Mathlib.Nat.{add-zero, zero-add, add_assoc}
 use native.Mathlib.Omega.{arith}
 use lib.Dec.{ltb}
-use lib.ListN.{length, take}
-use lib.Seq.{length-take-le, take_at}
+use lib.ListN.{length}
 use borrow.Author.Tests.{ne_eqb, lt-ltb, le-ltb, ltb-true, ltb-false}
 use Rattle.bits.specs.Bits.{◌is◌}
 use Rattle.bits.proofs.Logic.{by_cases}
@@ -16,7 +15,7 @@ use Rattle.board.specs.declared.Board.{Board}
 use Rattle.board.specs.Board.{sound_board, fresh_of}
 use Rattle.board.specs.Step.{line, verdict}
 use Rattle.recording.specs.Wave.{wave_text, refusal_of, wave_refusal, exported_of}
-use Rattle.wave.specs.Text.{kept_of, next_at, count_of, total, SameBefore, wave_of, events_limit, stamps_limit, ReadInParts, ByOwnLength}
+use Rattle.wave.specs.Text.{kept_of, next_from, count_of, total, wave_of, events_limit, stamps_limit, ReadInParts, ByOwnLength}
 
 pub short : (limit n : ℕ) → n < limit → n ≡ kept_of limit n
 unfolding kept_of
@@ -26,17 +25,13 @@ pub long : (limit n : ℕ) → limit ≤ n → limit + n % 4 ≡ kept_of limit n
 unfolding kept_of
 long limit n h = rw (le-ltb n limit h)
 
-pub behind : (limit n : ℕ) → n < limit → n ≡ next_at limit n
-unfolding next_at
+pub behind : (limit n : ℕ) → n < limit → n ≡ next_from limit n
+unfolding next_from
 behind limit n h = rw (lt-ltb n limit h)
 
-pub start : (limit n : ℕ) → limit ≤ n → 0 ≡ next_at limit n
-unfolding next_at
+pub start : (limit n : ℕ) → limit ≤ n → 0 ≡ next_from limit n
+unfolding next_from
 start limit n h = rw (le-ltb n limit h)
-
--- a part `&mut old[at..]` was lent
-pub before_part : (old part : List ℕ) (at : ℕ) → at ≤ length old → SameBefore at old (take at old ++ part)
-before_part old part at h = take_at (take at old) part at (length-take-le at old h)
 
 -- ---- a file read in parts: what is counted is what its whole length counts as
 kept_more : (limit n more : ℕ) → limit % 4 ≡ 0 → kept_of limit (kept_of limit n + more) ≡ kept_of limit (n + more)

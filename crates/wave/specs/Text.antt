@@ -16,8 +16,8 @@ unfoldable pub kept_of : ℕ → ℕ → ℕ
 kept_of limit n = if ltb n limit then n else limit + n % 4
 
 -- where the bytes behind the first `count` go
-unfoldable pub next_at : ℕ → ℕ → ℕ
-next_at limit count = if ltb count limit then count else 0
+unfoldable pub next_from : ℕ → ℕ → ℕ
+next_from limit count = if ltb count limit then count else 0
 
 -- what is counted after reads of these lengths, one after the other, by a program that had counted `count`; and how long the file is
 abbrev pub count_of : ℕ → ℕ → List ℕ → ℕ

@@ -4,7 +4,7 @@
 
 ghost use Rattle.std.specs.Prelude.{◌≡◌, ◌+◌, ◌-◌, ◌≤◌, ◌<◌, length, IfOk};
 ghost use Rattle.buffers.specs.Splice.{Wrote};
-ghost use Rattle.wave.specs.Text.{kept_of, next_at, SameBefore, ReadInParts, ByOwnLength, wave_of, buffer_of, refusal_line};
+ghost use Rattle.wave.specs.Text.{kept_of, next_from, SameBefore, ReadInParts, ByOwnLength, wave_of, buffer_of, refusal_line};
 
 use std::env::FillError;
 use std::io::{Cursor, Error, ErrorKind, Read, Write};
@@ -57,7 +57,7 @@ fn kept(n: usize, limit: usize) -> usize
 
 // Where the bytes behind the first `count` go: behind them, or to the start of the buffer when they matter no more.
 fn next_at(count: usize, limit: usize) -> usize
-    ensures value { result ≡ next_at limit count }
+    ensures value { result ≡ next_from limit count }
     ensures upper_bound { result ≤ limit }
 {
     if count < limit {
@@ -85,7 +85,7 @@ fn read_more(
 ) -> Stand
     requires { (4 ≤ length buffer.old) × ((length buffer.old ≤ 65544) × (count < length buffer.old)) }
     ensures count_in_bounds { result.count < length buffer.old }
-    ensures same_before { SameBefore (next_at (length buffer.old - 4) count) buffer.old buffer.new }
+    ensures same_before { SameBefore (next_from (length buffer.old - 4) count) buffer.old buffer.new }
 {
     let limit = buffer.len() - 4;
     let at = next_at(count, limit);
