@@ -45,3 +45,12 @@ length_below (suc k) n h =
     (λ e. omega (arith, length_one n (omega arith)))
     (λ p. omega (arith, length_more n (omega arith), length_below k (n / 10) (omega arith)))
     (eq-zero-or-pos (n / 10))
+
+positive : (k : ℕ) → 0 < 10 ^ k
+positive zero = omega arith
+positive (suc k) = omega (arith, positive k)
+
+-- one of at least 10 ^ k, and below 10 ^ suc k, has suc k digits
+pub length_between : (k n : ℕ) → 10 ^ k ≤ n → n < 10 ^ suc k → length (digits_of n) ≡ suc k
+length_between zero n l h = length_one n (omega arith)
+length_between (suc k) n l h = let shorter = length_between k (n / 10) (omega arith) (omega arith) in omega (arith, length_more n (omega (arith, positive k)), shorter)

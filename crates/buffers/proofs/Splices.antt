@@ -7,6 +7,7 @@ use native.Mathlib.Omega.{arith}
 use lib.ListN.{length, take, drop, set, length-append, length-drop, take-append-drop}
 use lib.Seq.{length-take-le, take_at, drop-append-add, drop-append-le, take-take, take-add, drop-drop, sets, sets-eq}
 use borrow.Author.Tests.{le-leb, lt-leb}
+use borrow.Rule.Slice.PartMut.{put_mid}
 use Rattle.buffers.specs.Splice.{splice, if_room, Wrote}
 
 -- ---- splice
@@ -65,6 +66,11 @@ pub splice_rest : (xs : List ℕ) (a : ℕ) (ys b : List ℕ) → a + length b �
     → take a xs ++ (ys ++ drop (length xs - a) (drop a xs)) ≡ splice xs a b
 splice_rest xs a ys b h e = splice_tail xs a ys 0 b (omega arith) e ∙ simp add-zero
 
+-- a part `&mut xs[a..a + k]` was lent and came back as a block: the whole has the block
+pub put_mid_splice : (xs : List ℕ) (a k : ℕ) (b : List ℕ) → k ≡ length b → put_mid a k xs b ≡ splice xs a b
+unfolding splice
+put_mid_splice xs a k b e = rw e (simp (drop-drop, append_assoc))
+
 -- stores one after the other, from index i on, are a block
 pub sets_splice : (l : List ℕ) (i : ℕ) (vs : List ℕ) → i + length vs ≤ length l → sets l i vs ≡ splice l i vs
 unfolding splice
@@ -85,6 +91,13 @@ room old at need b h = rw (le-leb (at + need) (length old) h)
 pub no_room : (old : List ℕ) (at need : ℕ) (b : List ℕ) → length old < at + need → if_room old at need b ≡ []
 unfolding if_room
 no_room old at need b h = rw (lt-leb (at + need) (length old) h)
+
+-- with room, where the first k bytes were lent and came back as a block
+pub start_in_room : (old : List ℕ) (k : ℕ) (b new : List ℕ) → k ≤ length old → length new ≡ length (take k old) → new ≡ b
+    → new ++ drop k old ≡ splice old 0 (if_room old 0 k b)
+start_in_room old k b new h long e =
+    let four : k ≡ length b = omega (arith, long, length-take-le k old h, ap length e) in
+    rw (room old 0 k b (omega arith), e) (put_mid_splice old 0 k b four)
 
 -- a part `&mut xs[a..]` with that room was lent to such a writer: the whole has the block
 pub room_rest : (xs : List ℕ) (a need : ℕ) (ys b : List ℕ) → a + need ≤ length xs → length b ≤ need
@@ -115,6 +128,13 @@ wrote_all {old} {m} {at} {n} {b} need h w = rw (room old at need b h) at w
 -- a store of one byte
 pub wrote_byte : (old : List ℕ) (at v : ℕ) → at < length old → Wrote old at (v ∷ []) (set old at v) (at + 1)
 wrote_byte old at v h = record { bytes = set_splice old at v h; ends = refl }
+
+-- a part that was lent and came back as the block
+pub wrote_part : (old : List ℕ) (at n : ℕ) (b new : List ℕ) → n ≡ at + length b → n ≤ length old → new ≡ b
+    → Wrote old at (if_room old at (length b) b) (put_mid at (n - at) old new) n
+wrote_part old at n b new e h whole =
+    wrote_in_room (length b) (omega arith)
+    record { bytes = rw whole (put_mid_splice old at (n - at) b (omega arith)); ends = e }
 
 -- two writers, one after the other
 pub wrote_then : {old m m' : List ℕ} {at n n' : ℕ} {b₁ b₂ : List ℕ} → at ≤ length old → Wrote old at b₁ m n → Wrote m n b₂ m' n'

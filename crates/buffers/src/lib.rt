@@ -9,21 +9,20 @@ ghost use Rattle.buffers.specs.Digits.{digits_of};
 ghost use Rattle.buffers.specs.Rows.{row_of};
 
 // The four bytes of a record at the start of `out`. Answers whether there was room.
-pub fn put_record(out: &mut [u8], a: u8, b: u8, c: u8, d: u8) -> bool
+#[tactic(auto, using(crate::proofs::Splices::no_room, crate::proofs::Splices::splice_none))]
+pub fn put_record(out: &mut [u8], bytes: [u8; 4]) -> bool
     ensures value { result ≡ has_room out.old 0 4 }
-    ensures out_after { out.new ≡ splice out.old 0 (if_room out.old 0 4 (a ∷ b ∷ c ∷ d ∷ [])) }
+    ensures out_after { out.new ≡ splice out.old 0 (if_room out.old 0 4 bytes) }
 {
     if out.len() < 4 {
         return false;
     }
-    out[0] = a;
-    out[1] = b;
-    out[2] = c;
-    out[3] = d;
+    out[..4].copy_from_slice(&bytes);
     true
 }
 
 // The bytes of `text` from index `at` on. Answers the index behind them; without room for them all it is `at`.
+#[tactic(auto, using(crate::proofs::Splices::no_room, crate::proofs::Splices::splice_none, crate::proofs::Splices::wrote_part))]
 pub fn put_bytes(out: &mut [u8], at: usize, text: &[u8]) -> usize
     ensures { Wrote out.old at (if_room out.old at (length text.now) text.now) out.new result }
 {
@@ -33,25 +32,18 @@ pub fn put_bytes(out: &mut [u8], at: usize, text: &[u8]) -> usize
     if text.len() > out.len() - at {
         return at;
     }
-    let mut i: usize = 0;
-    while i < text.len() {
-        out[at + i] = text[i];
-        i += 1;
-    }
-    at + i
+    let end = at + text.len();
+    out[at..end].copy_from_slice(text);
+    end
 }
 
 // How many digits `n` has in decimal.
+#[tactic(auto, using(crate::proofs::Decimals::length_one, crate::proofs::Decimals::length_between))]
 pub fn decimal_length(n: u64) -> usize
     ensures { result ≡ length (digits_of n) }
 {
-    let mut count: usize = 1;
-    let mut rest = n;
-    while rest >= 10 {
-        rest /= 10;
-        count += 1;
-    }
-    count
+    n.checked_ilog10()
+        .map_or(1, |exponent| exponent as usize + 1)
 }
 
 // The digits of `n`, the earlier ones first, where there is room for them.
@@ -70,6 +62,7 @@ fn digits(out: &mut [u8], at: usize, n: u64) -> usize
 }
 
 // The number `n` in decimal from index `at` on. Answers the index behind it; without room for every digit it is `at`.
+#[tactic(auto, using(crate::proofs::Splices::no_room, crate::proofs::Splices::splice_none, crate::proofs::Splices::room))]
 pub fn put_decimal(out: &mut [u8], at: usize, n: u64) -> usize
     ensures { Wrote out.old at (if_room out.old at (length (digits_of n)) (digits_of n)) out.new result }
 {
@@ -108,11 +101,9 @@ fn row(out: &mut [u8], at: usize, numbers: &[u64]) -> usize
     ensures upper_bound { result ≤ at + 21 * length numbers.now }
 {
     let mut next = at;
-    let mut i: usize = 0;
-    while i < numbers.len() {
-        next = number(out, next, numbers[i]);
-        i += 1;
-        out[next] = separator(numbers.len() - i);
+    for (i, n) in numbers.iter().enumerate() {
+        next = number(out, next, *n);
+        out[next] = separator(numbers.len() - (i + 1));
         next += 1;
     }
     next
@@ -120,6 +111,7 @@ fn row(out: &mut [u8], at: usize, numbers: &[u64]) -> usize
 
 // The row of `numbers` from index `at` on. It asks for 21 bytes for each number: no u64 has more than 20 digits, and one byte stands behind it.
 // That test is cheap and needs no digit counted. Answers the index behind the row; without that room it is `at`.
+#[tactic(auto, using(crate::proofs::Splices::no_room, crate::proofs::Splices::splice_none, crate::proofs::Splices::room))]
 pub fn put_row(out: &mut [u8], at: usize, numbers: &[u64]) -> usize
     ensures wrote { Wrote out.old at (if_room out.old at (21 * length numbers.now) (row_of numbers.now)) out.new result }
     ensures upper_bound { result ≤ at + 21 * length numbers.now }

@@ -32,7 +32,7 @@ fn put_answer(out: &mut [u8], a: Answer) -> u8
     ensures value { result ≡ a.code }
     ensures out_after { out.new ≡ written out.old (bytes_of a) }
 {
-    buffers::put_record(out, a.code, a.place, a.value, a.request);
+    buffers::put_record(out, [a.code, a.place, a.value, a.request]);
     a.code
 }
 

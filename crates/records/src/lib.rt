@@ -54,7 +54,7 @@ pub fn run_records(
             let to = 4 * (start + i);
             i += 1;
             decoder = decoder.next(value);
-            buffers::put_record(&mut answers[to..], 0, 0, value, request);
+            buffers::put_record(&mut answers[to..], [0, 0, value, request]);
         }
         if i >= n {
             break;
@@ -120,7 +120,7 @@ pub fn run_records(
                 let more = chain::marked(marks, k, d);
                 marks = more;
                 due = due | board::stirred(d);
-                buffers::put_record(&mut answers[to..], code, place, shown, request);
+                buffers::put_record(&mut answers[to..], [code, place, shown, request]);
                 continue;
             }
         }
@@ -137,11 +137,11 @@ pub fn run_records(
             request = s.answer.request;
             due = false;
             let a = s.answer;
-            buffers::put_record(&mut answers[to..], a.code, a.place, a.value, a.request);
+            buffers::put_record(&mut answers[to..], [a.code, a.place, a.value, a.request]);
             continue;
         }
         if !w.one {
-            buffers::put_record(&mut answers[to..], w.code, w.place, w.value, w.request);
+            buffers::put_record(&mut answers[to..], [w.code, w.place, w.value, w.request]);
             continue;
         }
         let k = w.chip;
@@ -154,7 +154,7 @@ pub fn run_records(
         request = r.answer.request;
         due = due | r.due;
         let a = r.answer;
-        buffers::put_record(&mut answers[to..], a.code, a.place, a.value, a.request);
+        buffers::put_record(&mut answers[to..], [a.code, a.place, a.value, a.request]);
     }
     Board {
         size: size,

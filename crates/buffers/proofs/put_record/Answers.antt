@@ -1,10 +1,7 @@
--- The goals of `buffers::put_record`: with room, and without. Assumes nothing.
-use Rattle.std.proofs.Common.{[], ◌∷◌, sym}
-use Rattle.buffers.proofs.Splices.{sets_splice, splice_none, room, no_room}
+-- The goal of `buffers::put_record` with room: the buffer's start came back as the record. Assumes nothing.
+use Rattle.std.proofs.Common.{arith}
+use Rattle.buffers.proofs.Splices.{start_in_room}
 use Rattle.buffers.proofs.put_record.Goals as goal
 
-pub returns-then-out-lt4-clause-out_after : goal.returns-then-out-lt4-clause-out_after
-returns-then-out-lt4-clause-out_after c = rw (no_room _ 0 4 _ c.if-out-lt4.true) (sym (splice_none _ 0))
-
 pub returns-clause-out_after : goal.returns-clause-out_after
-returns-clause-out_after c = rw (room _ 0 4 _ c.if-out-lt4.false) (sets_splice _ 0 (_ ∷ _ ∷ _ ∷ _ ∷ []) c.if-out-lt4.false)
+returns-clause-out_after c = start_in_room _ 4 _ _ (omega arith) c.copy_from_slice.ensures.len c.copy_from_slice.ensures.after
