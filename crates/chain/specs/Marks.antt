@@ -1,7 +1,7 @@
 -- What the chain needs to know of one chip, as a number, so that who asks and who is released need no look at every port. Nothing here
 -- need be believed: the laws in proofs/Marks.antt say that the answers are those of Chain.antt.
 -- Assumes nothing.
-use Rattle.std.specs.Prelude.{ℕ, zero, suc, ◌+◌, ◌*◌, ◌/◌, ◌%◌, ◌&&◌, not, List, [], ◌∷◌, ltb, length, get_or, set, replicate, if◌then◌else◌}
+use Rattle.std.specs.Prelude.{ℕ, zero, suc, ◌+◌, ◌*◌, ◌/◌, ◌%◌, ◌&&◌, not, Option, Some, None, List, [], ◌∷◌, ltb, length, get_or, set, replicate, if◌then◌else◌}
 use Rattle.bits.specs.Bits.{◌is◌}
 use Rattle.chip.specs.declared.Chip.{Chip}
 use Rattle.chain.specs.Chain.{most, ready, under}
@@ -56,6 +56,11 @@ caller_of (m ∷ ms) = if m % 4 is 0 then up (caller_of ms) else if m % 4 is 3 t
 unfoldable pub holder_of : Marks → ℕ
 holder_of [] = 0
 holder_of (m ∷ ms) = if m / 4 % 4 is 0 then up (holder_of ms) else m / 4 % 4
+
+-- the same of a place or none
+abbrev pub held_by : Option ℕ → ℕ
+held_by None = 0
+held_by (Some place) = place + 1
 
 -- who asks where the chip k is now c and `request` asked before: searched for only where the chip's mark changes
 unfoldable pub renewed_of : Marks → ℕ → Chip → ℕ → ℕ

@@ -4,7 +4,7 @@
 
 ghost use Rattle.std.specs.Prelude.{◌≡◌, if◌then◌else◌};
 ghost use Rattle.chain.specs.Decode.{next_of, reti_of};
-ghost use Rattle.chain.specs.Marks.{mark_of, unmarked_of, marked_of, caller_of, holder_of, renewed_of};
+ghost use Rattle.chain.specs.Marks.{mark_of, unmarked_of, marked_of, caller_of, holder_of, held_by, renewed_of};
 
 use chip::Chip;
 
@@ -122,18 +122,18 @@ pub fn renewed(marks: Marks, k: usize, c: Chip, request: u8) -> u8
     caller(next)
 }
 
-// The place of the nearest port under service and 1, or 0 if none is.
+// The place of the nearest port under service, if one is.
 #[tactic(auto, using(crate::proofs::Scans::begins, crate::proofs::Scans::holder_past, crate::proofs::Scans::holder_here, crate::proofs::Scans::holder_ends))]
-pub fn holder(marks: Marks) -> usize
-    ensures { result ≡ holder_of marks }
+pub fn holder(marks: Marks) -> Option<usize>
+    ensures { held_by result ≡ holder_of marks }
 {
     let mut i: usize = 0;
     while i < MOST {
         let held = marks[i] / 4 % 4;
         if held != 0 {
-            return 2 * i + held as usize;
+            return Some(2 * i + held as usize - 1);
         }
         i += 1;
     }
-    0
+    None
 }

@@ -2,7 +2,7 @@
 -- what the branches tell.
 -- Assumes nothing.
 use mathlib.Core.Path.{◌≡◌}
-use mathlib.Core.Bool.{Bool, true, false, ◌&&◌, not}
+use mathlib.Core.Bool.{Bool, true, false, ◌&&◌, ◌||◌, not}
 use Rattle.bits.specs.Bits.{◌is◌}
 use Rattle.port.specs.Rules.{settled, woken, served, released, cleared, fresh_port}
 use Rattle.port.specs.Sound.{sound_of}
@@ -53,3 +53,10 @@ release_b c s q e f = rw (e, f)
 
 pub release_a : (c : Chip) (s : Bool) (q : Port) → s ≡ false → q ≡ released c.a → made q c.b ≡ release (side s) c
 release_a c s q e f = rw (e, f)
+
+pub follows_b : (c : Chip) (s : Bool) → s ≡ true → ((c.b.mode is 1) && not c.b.strobe && not (c.a.mode is 2)) ≡ follows (side s) c
+follows_b c s e = rw e
+
+pub follows_a :
+    (c : Chip) (s : Bool) → s ≡ false → (((c.a.mode is 1) && not c.a.strobe) || ((c.a.mode is 2) && not c.b.strobe)) ≡ follows (side s) c
+follows_a c s e = rw e

@@ -25,22 +25,18 @@ pub fn port_of(c: Chip, on_b: bool) -> Port
     c.a
 }
 
-// Whether A's input register follows A's lines.
-pub fn a_follows(c: Chip) -> bool
-    ensures { result ≡ follows (side false) c }
+// Whether a port's input register follows its lines.
+#[tactic(auto, using(crate::proofs::Ways::follows_b, crate::proofs::Ways::follows_a))]
+pub fn follows(c: Chip, on_b: bool) -> bool
+    ensures { result ≡ follows (side on_b) c }
 {
     let a = c.a;
     let b = c.b;
-    ((a.mode == 1) & !a.strobe) | ((a.mode == 2) & !b.strobe)
-}
-
-// Whether B's input register follows B's lines.
-pub fn b_follows(c: Chip) -> bool
-    ensures { result ≡ follows (side true) c }
-{
-    let a = c.a;
-    let b = c.b;
-    (b.mode == 1) & !b.strobe & !(a.mode == 2)
+    let two = a.mode == 2;
+    if on_b {
+        return (b.mode == 1) & !b.strobe & !two;
+    }
+    ((a.mode == 1) & !a.strobe) | (two & !b.strobe)
 }
 
 // What a sound board asks of one chip.
@@ -50,7 +46,7 @@ pub fn sound(c: Chip) -> bool
     let a = c.a;
     let b = c.b;
     let watched = !(a.mode == 2);
-    rest::sound(a, false, a_follows(c), true) & rest::sound(b, true, b_follows(c), watched)
+    rest::sound(a, false, follows(c, false), true) & rest::sound(b, true, follows(c, true), watched)
 }
 
 // After an accepted event, at both ports: registers that follow take their lines, matches that became true make a port wait.
@@ -61,8 +57,8 @@ pub fn settle_chip(c: Chip) -> Chip
     let b = c.b;
     let watched = !(a.mode == 2);
     Chip {
-        a: rest::settle(a, a_follows(c), true),
-        b: rest::settle(b, b_follows(c), watched),
+        a: rest::settle(a, follows(c, false), true),
+        b: rest::settle(b, follows(c, true), watched),
     }
 }
 

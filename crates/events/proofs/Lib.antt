@@ -1,3 +1,4 @@
 pub mod Ways
 pub mod Keep
 pub mod Touch
+pub mod Outcomes

@@ -1,29 +1,22 @@
 -- What an event of kinds 3 to 7 at one port changes in its chip, before the settling: document 01's "Control words" and "Data,
 -- handshake, bits". The rules of one port are in port/specs and words/specs; here is which port they change, and what mode 2 of A adds.
 -- Assumes nothing.
-use Rattle.std.specs.Prelude.{ℕ, Bool, false, ◌&&◌, ◌||◌}
+use Rattle.std.specs.Prelude.{ℕ, Bool, false, ◌&&◌, ◌||◌, Result, Ok, Err}
 use Rattle.std.specs.Bool.{beq}
 use Rattle.bits.specs.Bits.{◌is◌}
 use Rattle.port.specs.Fields.{ready_at}
 use Rattle.port.specs.Rules.{written, accessed, strobed, lines_now}
 use Rattle.port.specs.declared.Port.{Port}
+use Rattle.refusals.specs.declared.Refusal.{Refusal}
 use Rattle.words.specs.Words.{heard_of, obeyed}
 use Rattle.words.specs.declared.Word.{Word}
-use Rattle.words.specs.declared.Heard.{Heard}
-use Rattle.words.specs.declared.Heard.TheVariants.{Said, NoForm, NotOnB}
 use Rattle.chip.specs.declared.Chip.{Chip}
 use Rattle.chip.specs.Chip.{Side, A, B, is_b, port, on, two_way, off}
-
--- the events of one place: kinds 3 to 7
-pub data Event : Type 0 where
-  control : ℕ → Event
-  write : ℕ → Event
-  read : Event
-  strobe : Bool → Event
-  outside : ℕ → Event
+use Rattle.events.specs.declared.Event.{Event}
+use Rattle.events.specs.declared.Event.TheVariants.{Control, Write, Read, Strobe, Outside}
 
 -- ---- control words
-abbrev pub heard : Side → ℕ → Chip → Heard
+abbrev pub heard : Side → ℕ → Chip → Result Word Refusal
 heard s v c = heard_of (port s c).awaiting (is_b s) v
 
 -- "A entering or leaving mode 2 also lowers B's Ready": the modes of A before and after
@@ -35,10 +28,9 @@ obey A w c = record { a = obeyed false c.a w; b = recoupled c.a.mode (obeyed fal
 obey B w c = record { a = c.a; b = obeyed (two_way c) c.b w }
 
 -- a refused byte changes nothing
-abbrev pub obey_heard : Side → Heard → Chip → Chip
-obey_heard s (Said w) c = obey s w c
-obey_heard s NoForm c = c
-obey_heard s NotOnB c = c
+abbrev pub obey_heard : Side → Result Word Refusal → Chip → Chip
+obey_heard s (Ok w) c = obey s w c
+obey_heard s (Err r) c = c
 
 -- ---- a data read: "in mode 2 B's Ready rises"
 abbrev pub read_from : Side → Chip → Chip
@@ -53,8 +45,8 @@ acts s c = two_way c || ((port s c).mode is 0) || ((port s c).mode is 1)
 
 -- ---- what an event at one port changes, before the settling
 abbrev pub changed : Side → Event → Chip → Chip
-changed s (control v) c = obey_heard s (heard s v c) c
-changed s (write v) c = on s (written (off s c) v) c
-changed s read c = read_from s c
-changed s (strobe level) c = on s (strobed (acts s c) level) c
-changed s (outside v) c = on s (lines_now v) c
+changed s (Control v) c = obey_heard s (heard s v c) c
+changed s (Write v) c = on s (written (off s c) v) c
+changed s Read c = read_from s c
+changed s (Strobe level) c = on s (strobed (acts s c) level) c
+changed s (Outside v) c = on s (lines_now v) c

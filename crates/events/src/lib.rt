@@ -4,18 +4,50 @@
 
 ghost use Rattle.std.specs.Prelude.{◌≡◌};
 ghost use Rattle.chip.specs.Chip.{side};
-ghost use Rattle.events.specs.Events.{obey, changed, write, read, strobe, outside};
-ghost use Rattle.events.specs.Act.{event_of, act_of, controlled_of};
+ghost use Rattle.events.specs.declared.Event.TheVariants.{Control, Write, Read, Strobe, Outside};
+ghost use Rattle.events.specs.Events.{obey, changed};
+ghost use Rattle.events.specs.Act.{event_of, outcome_of};
 
 use chip::Chip;
-use words::{Heard, Word};
+use refusals::Refusal;
+use words::Word;
 
-// A chip after an event at one of its ports, with the answer's code and value.
+// An event of one port: document 01, "Records", kinds 3 to 7.
+#[derive(Clone, Copy)]
+pub enum Event {
+    // 3: a control byte is written
+    Control(u8),
+    // 4: data is written
+    Write(u8),
+    // 5: data is read
+    Read,
+    // 6: the strobe goes to a level
+    Strobe(bool),
+    // 7: the outside levels of the eight lines
+    Outside(u8),
+}
+
+impl Event {
+    // The event of a kind from 3 to 7, with its value.
+    #[tactic(auto, unfolding(crate::specs::Act::event_of))]
+    pub fn of(kind: u8, value: u8) -> Event
+        ensures { result ≡ event_of kind value }
+    {
+        match kind {
+            3 => Event::Control(value),
+            4 => Event::Write(value),
+            5 => Event::Read,
+            6 => Event::Strobe(value == 1),
+            _ => Event::Outside(value),
+        }
+    }
+}
+
+// A chip after an event at one of its ports that was not refused, and the byte that a read shows.
 #[derive(Clone, Copy)]
 pub struct Acted {
     pub chip: Chip,
-    pub code: u8,
-    pub value: u8,
+    pub shown: Option<u8>,
 }
 
 // One port obeys a control word. A entering or leaving mode 2 also lowers B's Ready.
@@ -38,32 +70,10 @@ fn obey_word(c: Chip, on_b: bool, w: Word) -> Chip
     Chip { a: q, b: r }
 }
 
-// A control byte. A refusal leaves at once with the chip as it was.
-#[tactic(auto, using(crate::proofs::Ways::left_early, crate::proofs::Ways::went_on))]
-fn control(c: Chip, on_b: bool, value: u8) -> Acted
-    ensures { result ≡ controlled_of (side on_b) value c }
-{
-    let p = chip::port_of(c, on_b);
-    let h = words::hear(p.awaiting, on_b, value);
-    let Heard::Said(w) = h else {
-        return Acted {
-            chip: c,
-            code: words::code(h),
-            value: value,
-        };
-    };
-    let d = obey_word(c, on_b, w);
-    Acted {
-        chip: chip::settle_chip(d),
-        code: 0,
-        value: value,
-    }
-}
-
 // The CPU writes data to a port.
 #[tactic(auto, using(crate::proofs::Ways::write_b, crate::proofs::Ways::write_a))]
 pub fn write_data(c: Chip, on_b: bool, value: u8) -> Chip
-    ensures { result ≡ changed (side on_b) (write value) c }
+    ensures { result ≡ changed (side on_b) (Write value) c }
 {
     let a = c.a;
     let b = c.b;
@@ -82,7 +92,7 @@ pub fn write_data(c: Chip, on_b: bool, value: u8) -> Chip
 // The CPU has read a port. A read of A in mode 2 raises B's Ready.
 #[tactic(auto, using(crate::proofs::Ways::read_b, crate::proofs::Ways::read_a))]
 pub fn read_data(c: Chip, on_b: bool) -> Chip
-    ensures { result ≡ changed (side on_b) read c }
+    ensures { result ≡ changed (side on_b) Read c }
 {
     let a = c.a;
     let b = c.b;
@@ -104,7 +114,7 @@ pub fn read_data(c: Chip, on_b: bool) -> Chip
 // A port's Strobe goes to `level`.
 #[tactic(auto, using(crate::proofs::Ways::strobe_b, crate::proofs::Ways::strobe_a))]
 fn strobe_line(c: Chip, on_b: bool, level: bool) -> Chip
-    ensures { result ≡ changed (side on_b) (strobe level) c }
+    ensures { result ≡ changed (side on_b) (Strobe level) c }
 {
     let a = c.a;
     let b = c.b;
@@ -124,7 +134,7 @@ fn strobe_line(c: Chip, on_b: bool, level: bool) -> Chip
 // The outside levels of a port's lines.
 #[tactic(auto, using(crate::proofs::Ways::outside_b, crate::proofs::Ways::outside_a))]
 fn outside_lines(c: Chip, on_b: bool, value: u8) -> Chip
-    ensures { result ≡ changed (side on_b) (outside value) c }
+    ensures { result ≡ changed (side on_b) (Outside value) c }
 {
     let a = c.a;
     let b = c.b;
@@ -140,43 +150,25 @@ fn outside_lines(c: Chip, on_b: bool, value: u8) -> Chip
     }
 }
 
-// One event of kinds 3 to 7 at one port of the chip, and the settling after it.
-#[tactic(auto, using(bits::proofs::Tests::tests, crate::proofs::Ways::act_control, crate::proofs::Ways::act_write, crate::proofs::Ways::act_read, crate::proofs::Ways::act_strobe, crate::proofs::Ways::act_outside))]
-pub fn act(c: Chip, on_b: bool, kind: u8, value: u8) -> Acted
-    ensures { result ≡ act_of (side on_b) (event_of kind value) value c }
+// One event at one port of the chip, and the settling after it. A refused word leaves at once.
+#[tactic(auto, using(crate::proofs::Ways::act_control, crate::proofs::Ways::act_refused), unfolding(crate::specs::Act::outcome_of))]
+pub fn act(c: Chip, on_b: bool, event: Event) -> Result<Acted, Refusal>
+    ensures { result ≡ outcome_of (side on_b) event c }
 {
-    if kind == 3 {
-        return control(c, on_b, value);
-    }
-    if kind == 4 {
-        let d = write_data(c, on_b, value);
-        return Acted {
-            chip: chip::settle_chip(d),
-            code: 0,
-            value: value,
-        };
-    }
-    if kind == 5 {
-        let p = chip::port_of(c, on_b);
-        let d = read_data(c, on_b);
-        return Acted {
-            chip: chip::settle_chip(d),
-            code: 1,
-            value: port::shown(p),
-        };
-    }
-    if kind == 6 {
-        let d = strobe_line(c, on_b, value == 1);
-        return Acted {
-            chip: chip::settle_chip(d),
-            code: 0,
-            value: value,
-        };
-    }
-    let d = outside_lines(c, on_b, value);
-    Acted {
+    let p = chip::port_of(c, on_b);
+    let mut shown = None;
+    let d = match event {
+        Event::Control(value) => obey_word(c, on_b, words::hear(p.awaiting, on_b, value)?),
+        Event::Write(value) => write_data(c, on_b, value),
+        Event::Read => {
+            shown = Some(port::shown(p));
+            read_data(c, on_b)
+        }
+        Event::Strobe(level) => strobe_line(c, on_b, level),
+        Event::Outside(value) => outside_lines(c, on_b, value),
+    };
+    Ok(Acted {
         chip: chip::settle_chip(d),
-        code: 0,
-        value: value,
-    }
+        shown: shown,
+    })
 }

@@ -1,7 +1,7 @@
 -- What a control word does to the registers' half of soundness: a word that was heard fits the port, and a port that obeys it keeps
 -- the four facts.
 -- Assumes nothing.
-use Rattle.std.specs.Prelude.{if◌then◌else◌}
+use Rattle.std.specs.Prelude.{Result, Ok, Err, if◌then◌else◌}
 use mathlib.Core.Path.{◌≡◌, refl}
 use mathlib.Core.Bool.{Bool, true, false, ◌&&◌, ◌||◌, not}
 use Prim.Native.Nat.{ℕ, ◌/◌, ◌%◌}
@@ -14,8 +14,7 @@ use Rattle.port.specs.declared.Port.{Port}
 use Rattle.words.specs.Words.{heard_of, obeyed}
 use Rattle.words.specs.declared.Word.{Word}
 use Rattle.words.specs.declared.Word.TheVariants.{Vector, Mode, Interrupt, Enable, Select, Mask}
-use Rattle.words.specs.declared.Heard.{Heard}
-use Rattle.words.specs.declared.Heard.TheVariants.{Said, NoForm, NotOnB}
+use Rattle.refusals.specs.declared.Refusal.{Refusal}
 use Rattle.bits.proofs.Logic.{by_cases, both, join}
 use Rattle.port.proofs.Shape.{Facts}
 
@@ -40,15 +39,14 @@ await_mode false true = refl
 await_mode false false = refl
 
 -- ---- what a heard word may hold
-abbrev pub fits : Bool → Heard → Bool
-fits on_b (Said (Vector v)) = vector_ok v
-fits on_b (Said (Mode m)) = mode_ok on_b m
-fits on_b (Said (Interrupt on all high masked)) = true
-fits on_b (Said (Enable on)) = true
-fits on_b (Said (Select v)) = true
-fits on_b (Said (Mask v)) = true
-fits on_b NoForm = true
-fits on_b NotOnB = true
+abbrev pub fits : Bool → Result Word Refusal → Bool
+fits on_b (Ok (Vector v)) = vector_ok v
+fits on_b (Ok (Mode m)) = mode_ok on_b m
+fits on_b (Ok (Interrupt on all high masked)) = true
+fits on_b (Ok (Enable on)) = true
+fits on_b (Ok (Select v)) = true
+fits on_b (Ok (Mask v)) = true
+fits on_b (Err r) = true
 
 pub word_fits : (awaiting : ℕ) (on_b : Bool) (v : ℕ) → ltb v 256 ≡ true → fits on_b (heard_of awaiting on_b v) ≡ true
 word_fits awaiting on_b v byte =
@@ -60,7 +58,7 @@ word_fits awaiting on_b v byte =
     (by_cases (v % 16 is 7) (λ e. rw e) (λ e. rw e
     (by_cases (v % 16 is 3) (λ e. rw e) (λ e. rw e)))))))))))
 
-pub obeyed_facts : (on_b linked : Bool) (p : Port) (w : Word) → fits on_b (Said w) ≡ true → Facts on_b p → Facts on_b (obeyed linked p w)
+pub obeyed_facts : (on_b linked : Bool) (p : Port) (w : Word) → fits on_b (Ok w) ≡ true → Facts on_b p → Facts on_b (obeyed linked p w)
 obeyed_facts on_b linked p (Vector v) f h = (h.0, f, h.2, h.3)
 obeyed_facts on_b linked p (Mode m) f h = (f, h.1, h.2, await_mode (m is 3) p.live)
 obeyed_facts on_b linked p (Interrupt on all high true) f h = (h.0, h.1, refl, refl)

@@ -1,31 +1,26 @@
 -- Document 01, "Control words": what a control byte means to a port, and what the port does with it.
 -- Assumes nothing.
-use Rattle.std.specs.Prelude.{ℕ, ◌/◌, ◌%◌, Bool, false, ◌&&◌, if◌then◌else◌}
+use Rattle.std.specs.Prelude.{ℕ, ◌/◌, ◌%◌, Bool, false, ◌&&◌, Result, Ok, Err, if◌then◌else◌}
 use Rattle.bits.specs.Bits.{◌is◌, bit}
 use Rattle.port.specs.Fields.{mode_at, ready_at, vector_at, select_at, mask_at, all_at, high_at, asked_at, live_at, waiting_at, awaiting_at}
 use Rattle.port.specs.declared.Port.{Port}
+use Rattle.refusals.specs.declared.Refusal.{Refusal}
+use Rattle.refusals.specs.declared.Refusal.TheVariants.{NoForm, NotOnB}
 use Rattle.words.specs.declared.Word.{Word}
 use Rattle.words.specs.declared.Word.TheVariants.{Vector, Mode, Interrupt, Enable, Select, Mask}
-use Rattle.words.specs.declared.Heard.{Heard}
-use Rattle.words.specs.declared.Heard.TheVariants.{Said, NoForm, NotOnB}
 
 -- A port awaiting select (1) or mask (2) takes the next control byte, of any value, as that register. Otherwise: bit 0 is 0,
--- vector; low four bits 1111, mode from bits 7 and 6; 0111, interrupt control; 0011, enable from bit 7; the rest has no form.
-abbrev pub heard_of : ℕ → Bool → ℕ → Heard
+-- vector; low four bits 1111, mode from bits 7 and 6; 0111, interrupt control; 0011, enable from bit 7; the rest has no form. A mode 2
+-- word to B is refused.
+abbrev pub heard_of : ℕ → Bool → ℕ → Result Word Refusal
 heard_of awaiting on_b v =
-    if awaiting is 1 then Said (Select v) else
-    if awaiting is 2 then Said (Mask v) else
-    if v % 2 is 0 then Said (Vector v) else
-    if v % 16 is 15 then (if on_b && (v / 64 is 2) then NotOnB else Said (Mode (v / 64))) else
-    if v % 16 is 7 then Said (Interrupt (bit 7 v) (bit 6 v) (bit 5 v) (bit 4 v)) else
-    if v % 16 is 3 then Said (Enable (bit 7 v)) else
-    NoForm
-
--- the table's numbers: 19 control word of no defined form, 20 mode 2 word to a B port
-abbrev pub code_of : Heard → ℕ
-code_of (Said w) = 0
-code_of NoForm = 19
-code_of NotOnB = 20
+    if awaiting is 1 then Ok (Select v) else
+    if awaiting is 2 then Ok (Mask v) else
+    if v % 2 is 0 then Ok (Vector v) else
+    if v % 16 is 15 then (if on_b && (v / 64 is 2) then Err NotOnB else Ok (Mode (v / 64))) else
+    if v % 16 is 7 then Ok (Interrupt (bit 7 v) (bit 6 v) (bit 5 v) (bit 4 v)) else
+    if v % 16 is 3 then Ok (Enable (bit 7 v)) else
+    Err NoForm
 
 -- "Enable off: asked and live both off at once. Enable on: asked; live stays as it was"
 abbrev pub enabled : Bool → Port → Port

@@ -3,9 +3,10 @@
 #![tactic(auto)]
 
 ghost use Rattle.std.specs.Prelude.{◌≡◌};
-ghost use Rattle.words.specs.Words.{heard_of, code_of, obeyed};
+ghost use Rattle.words.specs.Words.{heard_of, obeyed};
 
 use port::Port;
+use refusals::Refusal;
 
 // A control word of a defined form.
 #[derive(Clone, Copy)]
@@ -23,35 +24,27 @@ pub enum Word {
     Mask(u8),
 }
 
-// What a control byte means to a port: a word, or one of the two refusals.
-#[derive(Clone, Copy)]
-pub enum Heard {
-    Said(Word),
-    NoForm,
-    NotOnB,
-}
-
-// What the byte means to a port that awaits nothing (0), its select word (1) or its mask (2).
-pub fn hear(awaiting: u8, on_b: bool, value: u8) -> Heard
+// What a control byte means to a port that awaits nothing (0), its select word (1) or its mask (2): a word, or one of two refusals.
+pub fn hear(awaiting: u8, on_b: bool, value: u8) -> Result<Word, Refusal>
     ensures { result ≡ heard_of awaiting on_b value }
 {
     if awaiting == 1 {
-        return Heard::Said(Word::Select(value));
+        return Ok(Word::Select(value));
     }
     if awaiting == 2 {
-        return Heard::Said(Word::Mask(value));
+        return Ok(Word::Mask(value));
     }
     if value % 2 == 0 {
-        return Heard::Said(Word::Vector(value));
+        return Ok(Word::Vector(value));
     }
     if value % 16 == 15 {
         if on_b & (value / 64 == 2) {
-            return Heard::NotOnB;
+            return Err(Refusal::NotOnB);
         }
-        return Heard::Said(Word::Mode(value / 64));
+        return Ok(Word::Mode(value / 64));
     }
     if value % 16 == 7 {
-        return Heard::Said(Word::Interrupt {
+        return Ok(Word::Interrupt {
             enable: value / 128 % 2 == 1,
             all: value / 64 % 2 == 1,
             high: value / 32 % 2 == 1,
@@ -59,20 +52,9 @@ pub fn hear(awaiting: u8, on_b: bool, value: u8) -> Heard
         });
     }
     if value % 16 == 3 {
-        return Heard::Said(Word::Enable(value / 128 % 2 == 1));
+        return Ok(Word::Enable(value / 128 % 2 == 1));
     }
-    Heard::NoForm
-}
-
-// The number of what was heard: 0 for a word, and document 01's number for a refusal.
-pub fn code(h: Heard) -> u8
-    ensures { result ≡ code_of h }
-{
-    match h {
-        Heard::Said(_) => 0,
-        Heard::NoForm => 19,
-        Heard::NotOnB => 20,
-    }
+    Err(Refusal::NoForm)
 }
 
 // The port obeys a word. `linked`: it is B, and A of its chip is in mode 2.
