@@ -8,7 +8,7 @@ use Rattle.port.specs.Rules.{settled, woken, served, released, cleared, fresh_po
 use Rattle.port.specs.Sound.{sound_of}
 use Rattle.port.specs.declared.Port.{Port}
 use Rattle.chip.specs.declared.Chip.{Chip}
-use Rattle.chip.specs.Chip.{A, B, side, port, follows, settle, reset, fetch, serve, release, chip_fresh}
+use Rattle.chip.specs.Chip.{Side, A, B, side, port, follows, on, put, settle, reset, fetch, serve, release, chip_fresh}
 use Rattle.chip.specs.Sound.{sound_chip}
 
 abbrev pub made : Port → Port → Chip
@@ -60,3 +60,14 @@ follows_b c s e = rw e
 pub follows_a :
     (c : Chip) (s : Bool) → s ≡ false → (((c.a.mode is 1) && not c.a.strobe) || ((c.a.mode is 2) && not c.b.strobe)) ≡ follows (side s) c
 follows_a c s e = rw e
+
+-- what is made of one port, as a port put at its side
+pub put_on : (s : Side) (f : Port → Port) (c : Chip) (q : Port) → q ≡ f (port s c) → put s q c ≡ on s f c
+put_on A f c q e = rw e
+put_on B f c q e = rw e
+
+pub on_b : (c : Chip) (s : Bool) (q : Port) → s ≡ true → made c.a q ≡ put (side s) q c
+on_b c s q e = rw e
+
+pub on_a : (c : Chip) (s : Bool) (q : Port) → s ≡ false → made q c.b ≡ put (side s) q c
+on_a c s q e = rw e

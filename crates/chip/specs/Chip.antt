@@ -30,6 +30,10 @@ abbrev pub on : Side → (Port → Port) → Chip → Chip
 on A f c = record { a = f c.a; b = c.b }
 on B f c = record { a = c.a; b = f c.b }
 
+-- a port at one side
+abbrev pub put : Side → Port → Chip → Chip
+put s q c = on s (λ p. q) c
+
 -- ---- mode 2 of A
 abbrev pub two_way : Chip → Bool
 two_way c = c.a.mode is 2

@@ -3,7 +3,7 @@
 #![tactic(auto)]
 
 ghost use Rattle.std.specs.Prelude.{◌≡◌, true, false};
-ghost use Rattle.chip.specs.Chip.{side, port, follows, settle, fetch, serve, release, reset, chip_fresh};
+ghost use Rattle.chip.specs.Chip.{side, port, follows, settle, fetch, put, serve, release, reset, chip_fresh};
 ghost use Rattle.chip.specs.Sound.{sound_chip};
 
 use port::Port;
@@ -72,40 +72,32 @@ pub fn fetch_chip(c: Chip) -> Chip
     }
 }
 
+// The chip where one port is what `f` makes of it.
+#[tactic(auto, using(crate::proofs::Ways::on_b, crate::proofs::Ways::on_a))]
+pub fn on<F: FnOnce(Port) -> Port>(c: Chip, on_b: bool, f: F) -> Chip
+    requires { F.IsAlwaysCallable f }
+    ensures { (q : _) × F.post f (port (side on_b) c) q × (result ≡ put (side on_b) q c) }
+{
+    if on_b {
+        return Chip { a: c.a, b: f(c.b) };
+    }
+    Chip { a: f(c.a), b: c.b }
+}
+
 // One port answers an acknowledge.
+#[tactic(auto, using(crate::proofs::Ways::put_on))]
 pub fn serve_port(c: Chip, on_b: bool) -> Chip
     ensures { result ≡ serve (side on_b) c }
 {
-    let a = c.a;
-    let b = c.b;
-    if on_b {
-        return Chip {
-            a: a,
-            b: port::serve(b),
-        };
-    }
-    Chip {
-        a: port::serve(a),
-        b: b,
-    }
+    on(c, on_b, port::serve)
 }
 
 // RETI releases one port.
+#[tactic(auto, using(crate::proofs::Ways::put_on))]
 pub fn release_port(c: Chip, on_b: bool) -> Chip
     ensures { result ≡ release (side on_b) c }
 {
-    let a = c.a;
-    let b = c.b;
-    if on_b {
-        return Chip {
-            a: a,
-            b: port::release(b),
-        };
-    }
-    Chip {
-        a: port::release(a),
-        b: b,
-    }
+    on(c, on_b, port::release)
 }
 
 // A reset, and the settling after it.

@@ -16,8 +16,8 @@ use Rattle.refusals.specs.declared.Refusal.{Refusal}
 use Rattle.words.specs.Words.{heard_of, obeyed}
 use Rattle.words.specs.declared.Word.{Word}
 use Rattle.chip.specs.declared.Chip.{Chip}
-use Rattle.chip.specs.Chip.{Side, A, B, side, port, settle}
-use Rattle.chip.proofs.Ways.{made}
+use Rattle.chip.specs.Chip.{Side, side, port, put, settle}
+use Rattle.chip.proofs.Ways.{made, put_on}
 use Rattle.events.specs.declared.Acted.{Acted}
 use Rattle.events.specs.declared.Event.TheVariants.{Control, Write, Read, Strobe, Outside}
 use Rattle.events.specs.Events.{acts, heard, obey, changed}
@@ -32,12 +32,6 @@ pub obey_a :
     → made q (ready_at (c.b.ready && beq (c.a.mode is 2) (q.mode is 2)) c.b) ≡ obey (side s) w c
 obey_a c s w q e f = rw (e, f)
 
-pub write_b : (c : Chip) (s : Bool) (v : ℕ) (q : Port) → s ≡ true → q ≡ written (c.a.mode is 2) v c.b → made c.a q ≡ changed (side s) (Write v) c
-write_b c s v q e f = rw (e, f)
-
-pub write_a : (c : Chip) (s : Bool) (v : ℕ) (q : Port) → s ≡ false → q ≡ written false v c.a → made q c.b ≡ changed (side s) (Write v) c
-write_a c s v q e f = rw (e, f)
-
 pub read_b : (c : Chip) (s : Bool) (q : Port) → s ≡ true → q ≡ accessed (c.a.mode is 2) c.b → made c.a q ≡ changed (side s) Read c
 read_b c s q e f = rw (e, f)
 
@@ -46,17 +40,18 @@ pub read_a :
     → made q (ready_at (c.b.ready || (c.a.mode is 2)) c.b) ≡ changed (side s) Read c
 read_a c s q e f = rw (e, f)
 
-pub strobe_b : (c : Chip) (s level : Bool) (q : Port) → s ≡ true → q ≡ strobed (acts B c) level c.b → made c.a q ≡ changed (side s) (Strobe level) c
-strobe_b c s level q e f = rw (e, f)
+-- ---- a port put at its side
+pub written_at :
+    (c : Chip) (s : Bool) (v : ℕ) (q : Port) → q ≡ written (s && (c.a.mode is 2)) v (port (side s) c) → put (side s) q c ≡ changed (side s) (Write v) c
+written_at c true v q e = rw e
+written_at c false v q e = rw e
 
-pub strobe_a : (c : Chip) (s level : Bool) (q : Port) → s ≡ false → q ≡ strobed (acts A c) level c.a → made q c.b ≡ changed (side s) (Strobe level) c
-strobe_a c s level q e f = rw (e, f)
+pub strobed_at :
+    (c : Chip) (s : Side) (level : Bool) (q : Port) → q ≡ strobed (acts s c) level (port s c) → put s q c ≡ changed s (Strobe level) c
+strobed_at c s level q e = put_on s (strobed (acts s c) level) c q e
 
-pub outside_b : (c : Chip) (s : Bool) (v : ℕ) (q : Port) → s ≡ true → q ≡ lines_now v c.b → made c.a q ≡ changed (side s) (Outside v) c
-outside_b c s v q e f = rw (e, f)
-
-pub outside_a : (c : Chip) (s : Bool) (v : ℕ) (q : Port) → s ≡ false → q ≡ lines_now v c.a → made q c.b ≡ changed (side s) (Outside v) c
-outside_a c s v q e f = rw (e, f)
+pub lined_at : (c : Chip) (s : Side) (v : ℕ) (q : Port) → q ≡ lines_now v (port s c) → put s q c ≡ changed s (Outside v) c
+lined_at c s v q e = put_on s (lines_now v) c q e
 
 -- ---- a control byte: what was heard is refused, or obeyed
 heard_is : (s : Bool) (v : ℕ) (c : Chip) (p : Port) (h : Result Word Refusal) → p ≡ port (side s) c → h ≡ heard_of p.awaiting s v → h ≡ heard (side s) v c

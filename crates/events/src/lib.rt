@@ -9,6 +9,7 @@ ghost use Rattle.events.specs.Events.{obey, changed};
 ghost use Rattle.events.specs.Act.{event_of, outcome_of};
 
 use chip::Chip;
+use port::Port;
 use refusals::Refusal;
 use words::Word;
 
@@ -52,7 +53,7 @@ pub struct Acted {
 
 // One port obeys a control word. A entering or leaving mode 2 also lowers B's Ready.
 #[tactic(auto, using(crate::proofs::Ways::obey_b, crate::proofs::Ways::obey_a))]
-fn obey_word(c: Chip, on_b: bool, w: Word) -> Chip
+pub fn obey_word(c: Chip, on_b: bool, w: Word) -> Chip
     ensures { result ≡ obey (side on_b) w c }
 {
     let a = c.a;
@@ -65,28 +66,22 @@ fn obey_word(c: Chip, on_b: bool, w: Word) -> Chip
         };
     }
     let q = words::obey(a, false, w);
-    let mut r = b;
-    r.ready = b.ready & (two == (q.mode == 2));
-    Chip { a: q, b: r }
+    Chip {
+        a: q,
+        b: Port {
+            ready: b.ready & (two == (q.mode == 2)),
+            ..b
+        },
+    }
 }
 
 // The CPU writes data to a port.
-#[tactic(auto, using(crate::proofs::Ways::write_b, crate::proofs::Ways::write_a))]
+#[tactic(auto, using(crate::proofs::Ways::written_at))]
 pub fn write_data(c: Chip, on_b: bool, value: u8) -> Chip
     ensures { result ≡ changed (side on_b) (Write value) c }
 {
-    let a = c.a;
-    let b = c.b;
-    if on_b {
-        return Chip {
-            a: a,
-            b: port::write(b, a.mode == 2, value),
-        };
-    }
-    Chip {
-        a: port::write(a, false, value),
-        b: b,
-    }
+    let off = on_b & (c.a.mode == 2);
+    chip::on(c, on_b, |p| port::write(p, off, value))
 }
 
 // The CPU has read a port. A read of A in mode 2 raises B's Ready.
@@ -103,51 +98,30 @@ pub fn read_data(c: Chip, on_b: bool) -> Chip
             b: port::access(b, two),
         };
     }
-    let mut r = b;
-    r.ready = b.ready | two;
     Chip {
         a: port::access(a, false),
-        b: r,
+        b: Port {
+            ready: b.ready | two,
+            ..b
+        },
     }
 }
 
 // A port's Strobe goes to `level`.
-#[tactic(auto, using(crate::proofs::Ways::strobe_b, crate::proofs::Ways::strobe_a))]
+#[tactic(auto, using(crate::proofs::Ways::strobed_at))]
 fn strobe_line(c: Chip, on_b: bool, level: bool) -> Chip
     ensures { result ≡ changed (side on_b) (Strobe level) c }
 {
-    let a = c.a;
-    let b = c.b;
-    let two = a.mode == 2;
-    if on_b {
-        return Chip {
-            a: a,
-            b: port::strobe(b, two | (b.mode == 0) | (b.mode == 1), level),
-        };
-    }
-    Chip {
-        a: port::strobe(a, two | (a.mode == 0) | (a.mode == 1), level),
-        b: b,
-    }
+    let two = c.a.mode == 2;
+    chip::on(c, on_b, |p| port::strobe(p, two | (p.mode == 0) | (p.mode == 1), level))
 }
 
 // The outside levels of a port's lines.
-#[tactic(auto, using(crate::proofs::Ways::outside_b, crate::proofs::Ways::outside_a))]
+#[tactic(auto, using(crate::proofs::Ways::lined_at))]
 fn outside_lines(c: Chip, on_b: bool, value: u8) -> Chip
     ensures { result ≡ changed (side on_b) (Outside value) c }
 {
-    let a = c.a;
-    let b = c.b;
-    if on_b {
-        return Chip {
-            a: a,
-            b: port::set_lines(b, value),
-        };
-    }
-    Chip {
-        a: port::set_lines(a, value),
-        b: b,
-    }
+    chip::on(c, on_b, |p| port::set_lines(p, value))
 }
 
 // One event at one port of the chip, and the settling after it. A refused word leaves at once.
