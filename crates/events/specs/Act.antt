@@ -63,6 +63,11 @@ act_of s e v c = record { chip = step s e c; code = code_at s e c; value = value
 abbrev pub done : Chip → Option ℕ → Result Acted Refusal
 done c shown = Ok (record { chip = c; shown = shown })
 
+-- a chip after an event that shows no byte
+abbrev pub quiet : Result Chip Refusal → Result Acted Refusal
+quiet (Ok c) = done c None
+quiet (Err r) = Err r
+
 abbrev pub word_outcome : Side → Result Word Refusal → Chip → Result Acted Refusal
 word_outcome s (Ok w) c = done (settle (obey s w c)) None
 word_outcome s (Err r) c = Err r

@@ -1,12 +1,9 @@
 -- One event at a sound chip, with no more settling than it can need, is the chip's step.
 -- Assumes nothing.
-use Rattle.std.specs.Prelude.{if◌then◌else◌}
+use Rattle.std.specs.Prelude.{Some, None, Result, Ok, Err, if◌then◌else◌}
 use mathlib.Core.Path.{◌≡◌, refl, sym, ap, ap₂, ◌∙◌}
 use mathlib.Core.Bool.{Bool, true, false, ◌&&◌, ◌||◌, not, beq, false≢true, true≢false}
-use mathlib.Core.List.{[], ◌∷◌}
 use Prim.Native.Nat.{ℕ}
-use types.Run.{OneOf}
-use denote.Enum.Declared.{tag_of}
 use Rattle.bits.specs.Bits.{◌is◌}
 use Rattle.bits.proofs.Logic.{both, beq_is}
 use Rattle.port.specs.Fields.{input_at, waiting_at, matched_at, ready_at, strobe_at as port-strobe-at}
@@ -14,21 +11,20 @@ use Rattle.port.specs.Rules.{strobed, lines_now, match_now, settled, shown_of}
 use Rattle.port.specs.Sound.{rests_of}
 use Rattle.port.specs.declared.Port.{Port}
 use Rattle.port.proofs.Rest.{rests_settled}
-use Rattle.words.specs.Words.{heard_of, code_of, obeyed}
+use Rattle.refusals.specs.declared.Refusal.{Refusal}
+use Rattle.words.specs.Words.{heard_of, obeyed}
 use Rattle.words.specs.declared.Word.{Word}
-use Rattle.words.specs.declared.Heard.{Heard}
-use Rattle.words.specs.declared.Heard.TheVariants.{Said}
 use Rattle.words.specs.declared.Word.TheVariants.{Vector, Mode, Interrupt, Enable, Select, Mask}
-use Rattle.words.specs.contracts.Heard as told
 use Rattle.chip.specs.declared.Chip.{Chip}
-use Rattle.chip.specs.Chip.{Side, A, B, side, port, two_way, off, follows, settle}
+use Rattle.chip.specs.Chip.{Side, A, B, side, port, put, two_way, off, follows, settle}
 use Rattle.chip.specs.Sound.{sound_chip}
 use Rattle.chip.proofs.Keep.{apart, rest_same}
 use Rattle.chip.proofs.Ways.{made}
 use Rattle.events.proofs.Ways as ways
-use Rattle.events.specs.Events.{acts, write, read, strobe, outside, obey, changed}
-use Rattle.events.specs.Act.{event_of, step, act_of}
-use Rattle.events.proofs.Ways.{acted}
+use Rattle.events.specs.declared.Acted.{Acted}
+use Rattle.events.specs.declared.Event.TheVariants.{Control, Write, Read, Strobe, Outside}
+use Rattle.events.specs.Events.{acts, obey, changed}
+use Rattle.events.specs.Act.{step, done, outcome_of}
 use Rattle.shortcuts.specs.Follow.{following, followed}
 
 -- ---- a port whose match memory is right: settling only lets the input register follow
@@ -61,42 +57,44 @@ pub both_follow : (c : Chip) (f g : Bool) (x y : Port) → f ≡ follows A c →
 both_follow c f g x y i j k l = rw (k, l, i, j)
 
 -- ---- data: nothing is left to settle
-write_rests : (s : Side) (v : ℕ) (c : Chip) → sound_chip c ≡ true → changed s (write v) c ≡ settle (changed s (write v) c)
+write_rests : (s : Side) (v : ℕ) (c : Chip) → sound_chip c ≡ true → changed s (Write v) c ≡ settle (changed s (Write v) c)
 unfolding match_now
-write_rests A v c h = sym (rest_same (changed A (write v) c) (apart c h).1)
-write_rests B v c h = sym (rest_same (changed B (write v) c) (apart c h).1)
+write_rests A v c h = sym (rest_same (changed A (Write v) c) (apart c h).1)
+write_rests B v c h = sym (rest_same (changed B (Write v) c) (apart c h).1)
 
-read_rests : (s : Side) (c : Chip) → sound_chip c ≡ true → changed s read c ≡ settle (changed s read c)
+read_rests : (s : Side) (c : Chip) → sound_chip c ≡ true → changed s Read c ≡ settle (changed s Read c)
 unfolding match_now
-read_rests A c h = sym (rest_same (changed A read c) (apart c h).1)
-read_rests B c h = sym (rest_same (changed B read c) (apart c h).1)
+read_rests A c h = sym (rest_same (changed A Read c) (apart c h).1)
+read_rests B c h = sym (rest_same (changed B Read c) (apart c h).1)
 
 module _ (c : Chip) (s : Bool) where
   -- ---- a strobe: no match changes
   follows_all : (d : Chip) → d.a.matched ≡ (match_now d.a && true) → d.b.matched ≡ (match_now d.b && not (off B d)) → followed d ≡ settle d
   follows_all d m n = ap₂ (λ (x y : Port). made x y) (settled_input (follows A d) true d.a m) (settled_input (follows B d) (not (off B d)) d.b n)
 
-  strobe_side : (t : Side) (level : Bool) → sound_chip c ≡ true → followed (changed t (strobe level) c) ≡ step t (strobe level) c
+  strobe_side : (t : Side) (level : Bool) → sound_chip c ≡ true → followed (changed t (Strobe level) c) ≡ step t (Strobe level) c
   unfolding step match_now
   strobe_side A level h =
       let r = (apart c h).1 in
-      follows_all (changed A (strobe level) c) (matched_now (follows A c) true c.a r.0) (matched_now (follows B c) (not (off B c)) c.b r.1)
+      follows_all (changed A (Strobe level) c) (matched_now (follows A c) true c.a r.0) (matched_now (follows B c) (not (off B c)) c.b r.1)
   strobe_side B level h =
       let r = (apart c h).1 in
-      follows_all (changed B (strobe level) c) (matched_now (follows A c) true c.a r.0) (matched_now (follows B c) (not (off B c)) c.b r.1)
+      follows_all (changed B (Strobe level) c) (matched_now (follows A c) true c.a r.0) (matched_now (follows B c) (not (off B c)) c.b r.1)
 
 -- ---- outside levels: the other port is as it was
-pub lines_b : (c : Chip) (s : Bool) (v : ℕ) (f : Bool) (p q : Port) → s ≡ true → p ≡ lines_now v c.b → f ≡ follows B c → q ≡ settled f (not (c.a.mode is 2)) p
-    → sound_chip c ≡ true → made c.a q ≡ step (side s) (outside v) c
+lines_side : (s : Side) (v : ℕ) (c : Chip) → sound_chip c ≡ true
+    → put s (settled (follows s c) (not (off s c)) (lines_now v (port s c))) c ≡ step s (Outside v) c
 unfolding step
-lines_b c s v f p q e i j k h =
-    rw (e, k, j, i) (ap (λ (x : Port). made x (settled (follows B c) (not (off B c)) (lines_now v c.b))) (sym (rests_settled (follows A c) true c.a (apart c h).1.0)))
+lines_side A v c h = ap (made (settled (follows A c) true (lines_now v c.a))) (sym (rests_settled (follows B c) (not (off B c)) c.b (apart c h).1.1))
+lines_side B v c h = ap (λ (x : Port). made x (settled (follows B c) (not (off B c)) (lines_now v c.b))) (sym (rests_settled (follows A c) true c.a (apart c h).1.0))
 
-pub lines_a : (c : Chip) (s : Bool) (v : ℕ) (f : Bool) (p q : Port) → s ≡ false → p ≡ lines_now v c.a → f ≡ follows A c → q ≡ settled f true p
-    → sound_chip c ≡ true → made q c.b ≡ step (side s) (outside v) c
-unfolding step
-lines_a c s v f p q e i j k h =
-    rw (e, k, j, i) (ap (made (settled (follows A c) true (lines_now v c.a))) (sym (rests_settled (follows B c) (not (off B c)) c.b (apart c h).1.1)))
+off_is : (s : Bool) (c : Chip) → (s && (c.a.mode is 2)) ≡ off (side s) c
+off_is true c = refl
+off_is false c = refl
+
+pub lines_is : (c : Chip) (s : Bool) (v : ℕ) (f : Bool) (p q : Port) → p ≡ lines_now v (port (side s) c) → f ≡ follows (side s) c → q ≡ settled f (not (s && (c.a.mode is 2))) p
+    → sound_chip c ≡ true → put (side s) q c ≡ step (side s) (Outside v) c
+lines_is c s v f p q i j k h = rw (k, j, i, off_is s c) (lines_side (side s) v c h)
 
 -- a strobe that stays at its level ends nothing
 never : (s acts : Bool) → (not s && s && acts) ≡ false
@@ -121,12 +119,12 @@ strobed_same acts p =
     (keeps_ready p.ready _ e) (keeps_waiting p.waiting _ e)
 
 strobe_both : (c : Chip) (s level : Bool) → sound_chip c ≡ true
-    → followed (made (strobed (acts A c) (if s then c.a.strobe else level) c.a) (strobed (acts B c) (if s then level else c.b.strobe) c.b)) ≡ step (side s) (strobe level) c
+    → followed (made (strobed (acts A c) (if s then c.a.strobe else level) c.a) (strobed (acts B c) (if s then level else c.b.strobe) c.b)) ≡ step (side s) (Strobe level) c
 strobe_both c true level h = ap (λ (x : Port). followed (made x (strobed (acts B c) level c.b))) (strobed_same (acts A c) c.a) ∙ strobe_side c true B level h
 strobe_both c false level h = ap (λ (x : Port). followed (made (strobed (acts A c) level c.a) x)) (strobed_same (acts B c) c.b) ∙ strobe_side c false A level h
 
 pub strobe_is : (c : Chip) (s level x y : Bool) (p q : Port) (d : Chip) → x ≡ (if s then c.a.strobe else level) → y ≡ (if s then level else c.b.strobe)
-    → p ≡ strobed (acts A c) x c.a → q ≡ strobed (acts B c) y c.b → d ≡ followed (made p q) → sound_chip c ≡ true → d ≡ step (side s) (strobe level) c
+    → p ≡ strobed (acts A c) x c.a → q ≡ strobed (acts B c) y c.b → d ≡ followed (made p q) → sound_chip c ≡ true → d ≡ step (side s) (Strobe level) c
 strobe_is c s level x y p q d e f i j k h = rw (k, i, j, e, f) (strobe_both c s level h)
 
 -- ---- a control word to B: no word moves the strobe, so A rests as before
@@ -144,36 +142,22 @@ a_rests c w h =
     ap (λ (t : Bool). settled (((c.a.mode is 1) && not c.a.strobe) || (two_way c && not t)) true c.a) (obeyed_strobe (two_way c) c.b w)
     ∙ rests_settled (follows A c) true c.a (apart c h).1.0
 
-pub word_b : (c : Chip) (v : ℕ) (h : Heard) (w : Word) (f : Bool) (p q : Port) → h ≡ heard_of c.b.awaiting true v → h ≡ Said w → p ≡ obeyed (c.a.mode is 2) c.b w
-    → f ≡ follows B (made c.a p) → q ≡ settled f (not (c.a.mode is 2)) p → sound_chip c ≡ true → acted (made c.a q) 0 v ≡ act_of (side true) (event_of 3 v) v c
-word_b c v h w f p q e t i j k g =
-    ways.act_control B 3 v c (acted (made c.a q) 0 v) refl
-    (ways.went_on true v c (obey B w c) (made c.a q) c.b h w refl e t refl
-    (rw (k, j, i) (ap (λ (x : Port). made x (settle (obey B w c)).b) (sym (a_rests c w g)))))
+settled_b : (s : Bool) (w : Word) (c d : Chip) → s ≡ true → d ≡ obey (side s) w c → sound_chip c ≡ true
+    → made d.a (settled (follows B d) (not (d.a.mode is 2)) d.b) ≡ settle d
+settled_b s w c d b q g = rw (q, b) (ap (λ (x : Port). made x (settle (obey B w c)).b) (sym (a_rests c w g)))
 
-abbrev recoupled : Chip → Port → Port
-recoupled c p = ready_at (c.b.ready && beq (c.a.mode is 2) (p.mode is 2)) c.b
-
-pub word_a : (c : Chip) (v : ℕ) (h : Heard) (w : Word) (f g : Bool) (p x y : Port) → h ≡ heard_of c.a.awaiting false v → h ≡ Said w → p ≡ obeyed false c.a w
-    → f ≡ follows A (made p (recoupled c p)) → x ≡ settled f true p → g ≡ follows B (made p (recoupled c p)) → y ≡ settled g (not (p.mode is 2)) (recoupled c p)
-    → acted (made x y) 0 v ≡ act_of (side false) (event_of 3 v) v c
-word_a c v h w f g p x y e t i j k l m =
-    ways.act_control A 3 v c (acted (made x y) 0 v) refl (ways.went_on false v c (obey A w c) (made x y) c.a h w refl e t refl (rw (k, j, m, l, i)))
-
--- ---- a refused control byte
-pub refused_b : (c : Chip) (v n : ℕ) (h : Heard) → h ≡ heard_of c.b.awaiting true v → n ≡ code_of h → OneOf (1 ∷ 2 ∷ []) (tag_of told.the_type h)
-    → acted c n v ≡ act_of (side true) (event_of 3 v) v c
-refused_b c v n h e q t = ways.act_control B 3 v c (acted c n v) refl (ways.left_early true v n c c.b h refl e q t)
-
-pub refused_a : (c : Chip) (v n : ℕ) (h : Heard) → h ≡ heard_of c.a.awaiting false v → n ≡ code_of h → OneOf (1 ∷ 2 ∷ []) (tag_of told.the_type h)
-    → acted c n v ≡ act_of (side false) (event_of 3 v) v c
-refused_a c v n h e q t = ways.act_control A 3 v c (acted c n v) refl (ways.left_early false v n c c.a h refl e q t)
+pub word_b : (s : Bool) (v : ℕ) (c d : Chip) (h : Result Word Refusal) (f : Bool) (p q : Port) (w : Word) → s ≡ true → p ≡ port (side s) c
+    → h ≡ heard_of p.awaiting s v → h ≡ Ok w → d ≡ obey (side s) w c → f ≡ follows B d → q ≡ settled f (not (d.a.mode is 2)) d.b → sound_chip c ≡ true
+    → ◌≡◌ {A = Result Acted Refusal} (Ok (record { chip = made d.a q; shown = None })) (outcome_of (side s) (Control v) c)
+unfolding outcome_of
+word_b s v c d h f p q w b i e t o j k g = rw (k, j, settled_b s w c d b o g) (ways.act_control s v c d p w i (sym t ∙ e) o)
 
 -- ---- data
-pub write_is : (c : Chip) (s : Bool) (v : ℕ) (d : Chip) → d ≡ changed (side s) (write v) c → sound_chip c ≡ true → d ≡ step (side s) (write v) c
+pub write_is : (c : Chip) (s : Bool) (v : ℕ) (d : Chip) → d ≡ changed (side s) (Write v) c → sound_chip c ≡ true → d ≡ step (side s) (Write v) c
 unfolding step
 write_is c s v d i g = i ∙ write_rests (side s) v c g
 
-pub act_read : (c : Chip) (s : Bool) (v n : ℕ) (d : Chip) (p : Port) → p ≡ port (side s) c → d ≡ changed (side s) read c → n ≡ shown_of p → sound_chip c ≡ true
-    → acted d 1 n ≡ act_of (side s) (event_of 5 v) v c
-act_read c s v n d p j i l g = ways.act_read (side s) 5 v n c (changed (side s) read c) d p refl refl refl j refl (i ∙ read_rests (side s) c g) l
+pub read_is : (c : Chip) (s : Bool) (n : ℕ) (d : Chip) (p : Port) → p ≡ port (side s) c → d ≡ changed (side s) Read c → n ≡ shown_of p → sound_chip c ≡ true
+    → ◌≡◌ {A = Result Acted Refusal} (Ok (record { chip = d; shown = Some n })) (outcome_of (side s) Read c)
+unfolding outcome_of
+read_is c s n d p j i l g = rw (l, j) (ap (λ (x : Chip). done x (Some (shown_of (port (side s) c)))) (i ∙ read_rests (side s) c g))

@@ -5,14 +5,14 @@
 ghost use Rattle.std.specs.Prelude.{◌≡◌, true, false, if◌then◌else◌};
 ghost use Rattle.chip.specs.Chip.{side};
 ghost use Rattle.chip.specs.Sound.{sound_chip};
-ghost use Rattle.events.specs.Events.{write, strobe, outside};
-ghost use Rattle.events.specs.Act.{event_of, step, act_of};
+ghost use Rattle.events.specs.declared.Event.TheVariants.{Control, Write, Read, Strobe, Outside};
+ghost use Rattle.events.specs.Act.{step, outcome_of, quiet};
 ghost use Rattle.shortcuts.specs.Follow.{following, followed};
 
 use chip::Chip;
 use events::Acted;
 use port::Port;
-use words::Heard;
+use refusals::Refusal;
 
 // The port's input register takes its lines, if it follows them.
 #[tactic(auto, using(crate::proofs::Sound::follow_none, crate::proofs::Sound::follow_taken))]
@@ -22,9 +22,10 @@ fn follow_lines(p: Port, follows: bool) -> Port
     if !follows {
         return p;
     }
-    let mut q = p;
-    q.input = p.lines;
-    q
+    Port {
+        input: p.lines,
+        ..p
+    }
 }
 
 // Both registers take their lines, where they follow them.
@@ -33,8 +34,8 @@ fn follow(c: Chip) -> Chip
     ensures { result ≡ followed c }
 {
     Chip {
-        a: follow_lines(c.a, chip::a_follows(c)),
-        b: follow_lines(c.b, chip::b_follows(c)),
+        a: follow_lines(c.a, chip::follows(c, false)),
+        b: follow_lines(c.b, chip::follows(c, true)),
     }
 }
 
@@ -52,7 +53,7 @@ fn level_at(moved: bool, level: bool, old: bool) -> bool
 // A strobe goes to a level: registers may follow, and no match changes. The other strobe stays at its level, which is no edge.
 #[tactic(auto, using(crate::proofs::Sound::strobe_is))]
 pub fn strobe(c: Chip, on_b: bool, level: bool) -> Chip
-    ensures { sound_chip c ≡ true → result ≡ step (side on_b) (strobe level) c }
+    ensures { sound_chip c ≡ true → result ≡ step (side on_b) (Strobe level) c }
 {
     let a = c.a;
     let b = c.b;
@@ -65,103 +66,48 @@ pub fn strobe(c: Chip, on_b: bool, level: bool) -> Chip
 }
 
 // Outside levels: the port that has the lines settles.
-#[tactic(auto, using(crate::proofs::Sound::lines_b, crate::proofs::Sound::lines_a))]
+#[tactic(auto, using(crate::proofs::Sound::lines_is))]
 pub fn lines(c: Chip, on_b: bool, value: u8) -> Chip
-    ensures { sound_chip c ≡ true → result ≡ step (side on_b) (outside value) c }
+    ensures { sound_chip c ≡ true → result ≡ step (side on_b) (Outside value) c }
 {
-    let a = c.a;
-    let b = c.b;
-    if on_b {
-        let q = port::set_lines(b, value);
-        return Chip {
-            a: a,
-            b: rest::settle(q, chip::b_follows(c), !(a.mode == 2)),
-        };
-    }
-    let q = port::set_lines(a, value);
-    Chip {
-        a: rest::settle(q, chip::a_follows(c), true),
-        b: b,
-    }
+    let follows = chip::follows(c, on_b);
+    let watched = !(on_b & (c.a.mode == 2));
+    chip::on(c, on_b, |p| rest::settle(port::set_lines(p, value), follows, watched))
 }
 
 // A data write leaves nothing to settle.
 #[tactic(auto, using(crate::proofs::Sound::write_is))]
 pub fn write(c: Chip, on_b: bool, value: u8) -> Chip
-    ensures { sound_chip c ≡ true → result ≡ step (side on_b) (write value) c }
+    ensures { sound_chip c ≡ true → result ≡ step (side on_b) (Write value) c }
 {
     events::write_data(c, on_b, value)
 }
 
-// Nor does a data read, which answers the byte read.
-#[tactic(auto, using(crate::proofs::Sound::act_read))]
-pub fn read(c: Chip, on_b: bool, value: u8) -> Acted
-    ensures { sound_chip c ≡ true → result ≡ act_of (side on_b) (event_of 5 value) value c }
+// Nor does a data read, which shows the byte read.
+#[tactic(auto, using(crate::proofs::Sound::read_is))]
+pub fn read(c: Chip, on_b: bool) -> Acted
+    ensures { sound_chip c ≡ true → Ok result ≡ outcome_of (side on_b) Read c }
 {
     let p = chip::port_of(c, on_b);
-    let d = events::read_data(c, on_b);
     Acted {
-        chip: d,
-        code: 1,
-        value: port::shown(p),
+        chip: events::read_data(c, on_b),
+        shown: Some(port::shown(p)),
     }
 }
 
-// A control byte to B leaves A as it was. A refusal leaves at once with the chip as it was.
-#[tactic(auto, using(crate::proofs::Sound::refused_b, crate::proofs::Sound::word_b))]
-pub fn control_b(c: Chip, value: u8) -> Acted
-    ensures { sound_chip c ≡ true → result ≡ act_of (side true) (event_of 3 value) value c }
+// A control byte to A may couple B anew, so both settle. One to B leaves A as it was. A refused word leaves at once.
+#[tactic(auto, using(events::proofs::Ways::act_refused, events::proofs::Ways::act_control, crate::proofs::Sound::word_b), unfolding(events::specs::Act::outcome_of))]
+pub fn control(c: Chip, on_b: bool, value: u8) -> Result<Chip, Refusal>
+    ensures { sound_chip c ≡ true → quiet result ≡ outcome_of (side on_b) (Control value) c }
 {
-    let a = c.a;
-    let b = c.b;
-    let two = a.mode == 2;
-    let h = words::hear(b.awaiting, true, value);
-    let Heard::Said(w) = h else {
-        return Acted {
-            chip: c,
-            code: words::code(h),
-            value: value,
-        };
-    };
-    let q = words::obey(b, two, w);
-    let d = Chip { a: a, b: q };
-    let f = chip::b_follows(d);
-    Acted {
-        chip: Chip {
-            a: a,
-            b: rest::settle(q, f, !two),
-        },
-        code: 0,
-        value: value,
+    let p = chip::port_of(c, on_b);
+    let w = words::hear(p.awaiting, on_b, value)?;
+    let d = events::obey_word(c, on_b, w);
+    if on_b {
+        return Ok(Chip {
+            a: d.a,
+            b: rest::settle(d.b, chip::follows(d, true), !(d.a.mode == 2)),
+        });
     }
-}
-
-// A control byte to A may couple B anew, so both settle.
-#[tactic(auto, using(crate::proofs::Sound::refused_a, crate::proofs::Sound::word_a))]
-pub fn control_a(c: Chip, value: u8) -> Acted
-    ensures { sound_chip c ≡ true → result ≡ act_of (side false) (event_of 3 value) value c }
-{
-    let a = c.a;
-    let b = c.b;
-    let h = words::hear(a.awaiting, false, value);
-    let Heard::Said(w) = h else {
-        return Acted {
-            chip: c,
-            code: words::code(h),
-            value: value,
-        };
-    };
-    let q = words::obey(a, false, w);
-    let two = q.mode == 2;
-    let mut r = b;
-    r.ready = b.ready & ((a.mode == 2) == two);
-    let d = Chip { a: q, b: r };
-    Acted {
-        chip: Chip {
-            a: rest::settle(q, chip::a_follows(d), true),
-            b: rest::settle(r, chip::b_follows(d), !two),
-        },
-        code: 0,
-        value: value,
-    }
+    Ok(chip::settle_chip(d))
 }
