@@ -1,28 +1,37 @@
--- The step in two halves, as the code does it: what an event asks of the board, worked out from its four bytes, the size, the
--- decoder and the marks; and what then happens to one chip or to all. Nothing here need be believed: `halves` in proofs/ says that
+-- The step in two halves, as the code does it: what an event asks of the board, worked out from its four bytes, the size, the decoder and
+-- what is known of the chips; and what then happens to one chip or to all. Nothing here need be believed: `advances` in proofs/ says that
 -- on a sound board the two together are `step_of`.
 -- Assumes nothing.
-use Rattle.std.specs.Prelude.{Bool, true, false, ◌&&◌, ◌||◌, not, List, [], ◌∷◌, map, ℕ, ◌-◌, ◌/◌, ◌%◌, ltb, length, get_or, set, take, if◌then◌else◌}
+use Rattle.std.specs.Prelude.{Bool, true, false, ◌&&◌, ◌||◌, not, List, [], ◌∷◌, map, ℕ, ◌-◌, ◌/◌, ◌%◌, ltb, get_or, set, take, Option, Some, None, Result, Ok, Err, if◌then◌else◌}
 use Rattle.bits.specs.Bits.{◌is◌}
 use Rattle.port.specs.declared.Port.{Port}
+use Rattle.refusals.specs.declared.Refusal.{Refusal}
+use Rattle.refusals.specs.declared.Refusal.TheVariants.{Kind, Place, Value, Unsound}
+use Rattle.refusals.specs.Numbers.{number_of}
 use Rattle.chip.specs.declared.Chip.{Chip}
-use Rattle.chip.specs.Chip.{side, port, serve, release, settle}
+use Rattle.chip.specs.Chip.{port, serve, release, settle}
 use Rattle.chip.specs.Chip as chip
+use Rattle.events.specs.declared.Event.{Event}
 use Rattle.events.specs.declared.Acted.{Acted}
-use Rattle.events.specs.Act.{event_of, act_of}
+use Rattle.events.specs.Act.{Acting, outcome_of, acting_from}
 use Rattle.chain.specs.declared.Decoder.{Decoder}
-use Rattle.chain.specs.Chain.{most}
-use Rattle.chain.specs.Decode.{shut, next_of, reti_of}
-use Rattle.chain.specs.Marks.{Marks, marked_of, marks_of, caller_of, holder_of}
+use Rattle.chain.specs.Chain.{most, side_of}
+use Rattle.chain.specs.Decode.{reti_of}
+use Rattle.chain.specs.Marks.{Marks, marked_of, marks_of, caller_of, holder_of, renewed_of}
 use Rattle.board.specs.declared.Board.{Board}
 use Rattle.board.specs.declared.Answer.{Answer}
-use Rattle.board.specs.declared.Stepped.{Stepped}
+use Rattle.board.specs.declared.Doing.{Doing}
+use Rattle.board.specs.declared.Doing.TheVariants.{Reset, Fetch, Acknowledge, At}
 use Rattle.board.specs.declared.Look.{Look}
+use Rattle.board.specs.declared.Touch.{Touch}
+use Rattle.board.specs.declared.Touch.TheVariants.{Release, Serve, Act}
+use Rattle.board.specs.declared.Sweep.{Sweep}
+use Rattle.board.specs.declared.Sweep.TheVariants.{Clear, Wake}
 use Rattle.board.specs.declared.Plan.{Plan}
-use Rattle.board.specs.declared.Changed.{Changed}
-use Rattle.board.specs.declared.Swept.{Swept}
-use Rattle.board.specs.Board.{within, sound_all, size_ok}
-use Rattle.board.specs.Step.{kind_of, place_of, value_of, last_of, line, verdict, place_bad, value_bad, answer}
+use Rattle.board.specs.declared.Plan.TheVariants.{Nothing, One, Each}
+use Rattle.board.specs.declared.Touched.{Touched}
+use Rattle.board.specs.Board.{within, sound_board}
+use Rattle.board.specs.Step.{kind_of, place_of, value_of, last_of, line, verdict, place_bad, value_bad, doing_of, decoder_after, answer, Stepped}
 
 -- ---- one look at every chip that is there
 abbrev pub stirs_port : Port → Bool
@@ -36,8 +45,15 @@ abbrev pub stirs_some : List Chip → Bool
 stirs_some [] = false
 stirs_some (c ∷ cs) = stirs c || stirs_some cs
 
-unfoldable pub look_of : ℕ → List Chip → Look
-look_of n cs = record { sound = size_ok n && sound_all (take n cs); due = stirs_some (take n cs); marks = marks_of n cs }
+abbrev pub look_of : ℕ → List Chip → Look
+look_of n cs = record { marks = marks_of n cs; due = stirs_some (take n cs); request = caller_of (marks_of n cs) }
+
+unfoldable pub seen_of : Board → Result Look Refusal
+seen_of b = if sound_board b then Ok (look_of b.size b.chips) else Err Unsound
+
+-- the chip k is now c
+unfoldable pub noted_of : Look → ℕ → Chip → Look
+noted_of l k c = record { marks = marked_of l.marks k c; due = l.due || stirs c; request = renewed_of l.marks k c l.request }
 
 -- ---- the first half
 -- the refusals that need no look at a port: 16, 17, 18
@@ -49,86 +65,48 @@ early_of size kind place value last =
     ∷ line (value_bad kind value last) 18
     ∷ [])
 
--- only the decoder changes, and the answer is known
-abbrev pub idle : Decoder → Marks → ℕ → ℕ → ℕ → ℕ → Plan
-idle d marks code place value request =
-    record { whole = false; one = false; chip = 0; second = false; kind = 0; code = code; place = place; value = value; request = request; marks = marks; decoder = d }
-
--- a port of one chip: the one at a place
-abbrev pub single : Decoder → Marks → ℕ → ℕ → ℕ → ℕ → ℕ → Plan
-single d marks kind code place value request =
-    record { whole = false; one = true; chip = place / 2 % most; second = (place % 2 is 1); kind = kind; code = code; place = place; value = value; request = request; marks = marks; decoder = d }
-
--- a fetch: of every chip if one is stirred; and a RETI releases the nearest port under service
-abbrev pub fetch_at : Decoder → Marks → Bool → Bool → ℕ → ℕ → ℕ → Plan
-fetch_at d marks due frees held value request =
-    record { whole = due; one = frees; chip = held / 2 % most; second = (held % 2 is 1); kind = 1; code = 0; place = 0; value = value; request = request; marks = marks; decoder = next_of d value }
-
-unfoldable pub fetch_plan : Decoder → Marks → Bool → ℕ → ℕ → Plan
-fetch_plan d marks due value request =
-    if not (reti_of d value) then fetch_at d marks due false 0 value request else
-    if holder_of marks is 0 then fetch_at d marks due false 0 value request else
-    fetch_at d marks due true (holder_of marks - 1) value request
-
--- an acknowledge goes to the place that the request names
-unfoldable pub acknowledge_plan : Marks → ℕ → Plan
-acknowledge_plan marks request =
-    if request is 0 then idle shut marks 3 0 255 request else
-    single shut marks 2 2 (request - 1) 0 request
-
-abbrev pub reset_plan : Marks → ℕ → ℕ → Plan
-reset_plan marks value request =
-    record { whole = true; one = false; chip = 0; second = false; kind = 0; code = 0; place = 0; value = value; request = request; marks = marks; decoder = shut }
-
--- kind, place and value of an event with no early refusal
-unfoldable pub accepted_plan : Decoder → Marks → Bool → ℕ → ℕ → ℕ → ℕ → Plan
-accepted_plan d marks due request kind place value =
-    if kind is 1 then fetch_plan d marks due value request else
-    if kind is 0 then reset_plan marks value request else
-    if kind is 2 then acknowledge_plan marks request else
-    single d marks kind 0 place value request
-
 abbrev pub early_at : ℕ → List ℕ → ℕ
 early_at size e = early_of size (kind_of e) (place_of e) (value_of e) (last_of e)
 
-unfoldable pub plan_of : ℕ → Decoder → Marks → Bool → ℕ → List ℕ → Plan
-plan_of size d marks due request e =
-    if not (length e is 4) then idle d marks 32 0 0 0 else
-    if not (early_at size e is 0) then idle d marks (early_at size e) (place_of e) (value_of e) request else
-    accepted_plan d marks due request (kind_of e) (place_of e) (value_of e)
+-- the same, or what the event does: `read_is` in proofs/ says that its code is that of `early_at`
+unfoldable pub read_of : ℕ → List ℕ → Result Doing Refusal
+read_of size e =
+    if ltb 7 (kind_of e) then Err Kind else
+    if place_bad size (kind_of e) (place_of e) then Err Place else
+    if value_bad (kind_of e) (value_of e) (last_of e) then Err Value else
+    Ok (doing_of e)
 
--- the first half after a look at any board: 32 and 35 come before all else
-unfoldable pub seen_plan : ℕ → Decoder → Look → List ℕ → Plan
-seen_plan size d l e =
-    if l.sound then plan_of size d l.marks l.due (caller_of l.marks) e else
-    if not (length e is 4) then idle d l.marks 32 0 0 0 else
-    idle d l.marks 35 (place_of e) (value_of e) 0
+-- the place that a place and 1 name, and nobody for 0
+abbrev pub named_by : ℕ → Option ℕ
+named_by n = if n is 0 then None else Some (n - 1)
 
--- the first half for any board
-abbrev pub first_of : Board → List ℕ → Plan
-first_of b e = seen_plan b.size b.decoder (look_of b.size b.chips) e
+-- a RETI releases the nearest port under service
+unfoldable pub freed_of : Decoder → Marks → ℕ → Option ℕ
+freed_of d marks byte = if reti_of d byte then named_by (holder_of marks) else None
+
+abbrev pub release_plan : ℕ → ℕ → Option ℕ → Plan
+release_plan byte request None = Nothing (answer 0 0 byte request)
+release_plan byte request (Some place) = One place Release
+
+-- a fetch: of every chip if one is stirred
+unfoldable pub fetch_plan : Decoder → Look → ℕ → Plan
+fetch_plan d l byte = if l.due then Each (freed_of d l.marks byte) Wake else release_plan byte l.request (freed_of d l.marks byte)
+
+-- an acknowledge goes to the place that the request names
+abbrev pub serve_plan : ℕ → Option ℕ → Plan
+serve_plan request None = Nothing (answer 3 0 255 request)
+serve_plan request (Some place) = One place Serve
+
+unfoldable pub acknowledge_plan : ℕ → Plan
+acknowledge_plan request = serve_plan request (named_by request)
+
+abbrev pub plan_of : Decoder → Look → Doing → Plan
+plan_of d l Reset = Each None Clear
+plan_of d l (Fetch byte) = fetch_plan d l byte
+plan_of d l Acknowledge = acknowledge_plan l.request
+plan_of d l (At place e) = One place (Act e)
 
 -- ---- the second half
--- one chip: a RETI's release, an acknowledge's service, or an event of kinds 3 to 7
-unfoldable pub touched_of : Chip → Plan → Acted
-touched_of c w =
-    if w.kind is 1 then record { chip = release (side w.second) c; code = 0; value = w.value } else
-    if w.kind is 2 then record { chip = serve (side w.second) c; code = 2; value = (port (side w.second) c).vector } else
-    act_of (side w.second) (event_of w.kind w.value) w.value c
-
-abbrev pub with_acted : Plan → Acted → Changed
-with_acted w r = record {
-  chip = r.chip;
-  marks = marked_of w.marks w.chip r.chip;
-  due = stirs r.chip;
-  answer = answer r.code w.place r.value (caller_of (marked_of w.marks w.chip r.chip));
-}
-
-unfoldable pub changed_of : Chip → Plan → Changed
-changed_of c w =
-    if w.one then with_acted w (touched_of c w) else
-    record { chip = c; marks = w.marks; due = stirs c; answer = answer w.code w.place w.value w.request }
-
 -- what the logic reads past the end of a row of chips
 abbrev pub blank_port : Port
 blank_port = record { mode = 0; out = 0; input = 0; lines = 0; strobe = false; ready = false; vector = 0; select = 0; mask = 0; all = false; high = false; asked = false; live = false; waiting = false; service = false; awaiting = 0; matched = false }
@@ -136,34 +114,80 @@ blank_port = record { mode = 0; out = 0; input = 0; lines = 0; strobe = false; r
 abbrev pub blank : Chip
 blank = record { a = blank_port; b = blank_port }
 
+-- the chip of a place, in a row
+abbrev pub index_of : ℕ → ℕ
+index_of place = place / 2 % most
+
+abbrev pub chip_at : Board → ℕ → Chip
+chip_at b place = get_or b.chips (index_of place) blank
+
+abbrev pub touched : Chip → ℕ → ℕ → ℕ → Touched
+touched c code place value = record { chip = c; code = code; place = place; value = value }
+
+abbrev pub touched_by : ℕ → Acting → Touched
+touched_by place a = touched a.chip a.code place a.value
+
+-- what came of an event of kinds 3 to 7 at a chip
+unfoldable pub acted_of : Chip → ℕ → ℕ → Result Acted Refusal → Touched
+acted_of c place value outcome = touched_by place (acting_from c value outcome)
+
+-- one chip: a RETI's release, an acknowledge's service, or an event of kinds 3 to 7
+unfoldable pub touched_of : Chip → ℕ → Touch → ℕ → Touched
+touched_of c place Release value = touched (release (side_of place) c) 0 0 value
+touched_of c place Serve value = touched (serve (side_of place) c) 2 place (port (side_of place) c).vector
+touched_of c place (Act e) value = acted_of c place value (outcome_of (side_of place) e c)
+
 -- every chip: a reset, or a fetch after the release of one port
-abbrev pub sweep_of : ℕ → Chip → Chip
-sweep_of kind c = if kind is 0 then settle (chip.reset c) else chip.fetch c
+abbrev pub sweep_of : Sweep → Chip → Chip
+sweep_of Clear c = settle (chip.reset c)
+sweep_of Wake c = chip.fetch c
 
-abbrev pub freed_of : List Chip → Plan → List Chip
-freed_of cs w = if w.one then set cs w.chip (release (side w.second) (get_or cs w.chip blank)) else cs
+abbrev pub freed_chips : List Chip → Option ℕ → List Chip
+freed_chips cs None = cs
+freed_chips cs (Some place) = set cs (index_of place) (release (side_of place) (get_or cs (index_of place) blank))
 
-abbrev pub with_swept : ℕ → List Chip → Plan → Swept
-with_swept n cs w = record { chips = cs; marks = marks_of n cs; answer = answer 0 0 w.value (caller_of (marks_of n cs)) }
+abbrev pub swept_of : ℕ → List Chip → Option ℕ → Sweep → List Chip
+swept_of n cs freed sweep = within n (map (sweep_of sweep)) (freed_chips cs freed)
 
-unfoldable pub swept_of : ℕ → List Chip → Plan → Swept
-swept_of n cs w = with_swept n (within n (map (sweep_of w.kind)) (freed_of cs w)) w
+-- ---- the two halves together: the board, what is then known of it, and the answer
+pub record Advanced : Type 0 where
+  pub board : Board
+  pub look : Look
+  pub answer : Answer
 
--- ---- the two halves together
-abbrev pub joined : Board → Plan → List Chip → Answer → Stepped
-joined b w cs a = record { board = record { size = b.size; chips = cs; decoder = w.decoder }; answer = a }
+abbrev pub advanced : Board → Look → Answer → Advanced
+advanced b l a = record { board = b; look = l; answer = a }
 
-abbrev pub wholly : Board → Plan → Swept → Stepped
-wholly b w s = joined b w s.chips s.answer
+abbrev pub with_chips : Board → List Chip → Board
+with_chips b cs = record { size = b.size; chips = cs; decoder = b.decoder }
 
-abbrev pub singly : Board → Plan → Changed → Stepped
-singly b w r = joined b w (set b.chips w.chip r.chip) r.answer
+-- the place's chip is now another
+unfoldable pub changed_of : Board → Look → ℕ → Touched → Advanced
+changed_of b l place t =
+    advanced (with_chips b (set b.chips (index_of place) t.chip)) (noted_of l (index_of place) t.chip)
+    (answer t.code t.place t.value (noted_of l (index_of place) t.chip).request)
 
-abbrev pub idly : Board → Plan → Stepped
-idly b w = joined b w b.chips (answer w.code w.place w.value w.request)
+-- the chips are now others, and a fetch would leave them as they are
+abbrev pub with_swept : Board → List Chip → ℕ → Advanced
+with_swept b cs value =
+    advanced (with_chips b cs) (record { marks = marks_of b.size cs; due = false; request = caller_of (marks_of b.size cs) })
+    (answer 0 0 value (caller_of (marks_of b.size cs)))
 
-unfoldable pub carried : Board → Plan → Stepped
-carried b w =
-    if w.whole then wholly b w (swept_of b.size b.chips w) else
-    if w.one then singly b w (changed_of (get_or b.chips w.chip blank) w) else
-    idly b w
+unfoldable pub carried : Board → Look → Plan → ℕ → Advanced
+carried b l (Nothing a) value = advanced b l a
+carried b l (One place touch) value = changed_of b l place (touched_of (chip_at b place) place touch value)
+carried b l (Each freed sweep) value = with_swept b (swept_of b.size b.chips freed sweep) value
+
+abbrev pub listened : Board → Doing → Board
+listened b g = record { size = b.size; chips = b.chips; decoder = decoder_after b.decoder g }
+
+abbrev pub advanced_by : Board → Look → List ℕ → Result Doing Refusal → Advanced
+advanced_by b l e (Ok g) = carried (listened b g) l (plan_of b.decoder l g) (value_of e)
+advanced_by b l e (Err r) = advanced b l (answer (number_of r) (place_of e) (value_of e) l.request)
+
+unfoldable pub advanced_of : Board → Look → List ℕ → Advanced
+advanced_of b l e = advanced_by b l e (read_of b.size e)
+
+-- what of it a step tells
+abbrev pub stepped : Advanced → Stepped
+stepped a = record { board = a.board; answer = a.answer }

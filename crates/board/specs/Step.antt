@@ -4,11 +4,14 @@
 use Rattle.std.specs.Prelude.{Bool, true, false, ◌&&◌, ◌||◌, not, List, [], ◌∷◌, map, ℕ, ◌*◌, ◌/◌, ltb, length, get_or, if◌then◌else◌}
 use Rattle.bits.specs.Bits.{◌is◌}
 use Rattle.port.specs.Rules.{shown_of}
-use Rattle.words.specs.Words.{heard_of, code_of}
+use Rattle.refusals.specs.Numbers.{code_of}
+use Rattle.words.specs.Words.{heard_of}
 use Rattle.chip.specs.declared.Chip.{Chip}
 use Rattle.chip.specs.Chip.{is_b, settle}
 use Rattle.chip.specs.Chip as chip
-use Rattle.events.specs.Events.{Event, control, write, read, strobe, outside, changed}
+use Rattle.events.specs.declared.Event.{Event}
+use Rattle.events.specs.declared.Event.TheVariants.{Control, Write, Read, Strobe, Outside}
+use Rattle.events.specs.Events.{changed}
 use Rattle.events.specs.Act.{event_of}
 use Rattle.chain.specs.declared.Decoder.{Decoder}
 use Rattle.chain.specs.Places.{adjust}
@@ -16,7 +19,8 @@ use Rattle.chain.specs.Chain.{asker, asks, side_of, acknowledged, retired}
 use Rattle.chain.specs.Decode.{shut, next_of, reti_of}
 use Rattle.board.specs.declared.Board.{Board}
 use Rattle.board.specs.declared.Answer.{Answer}
-use Rattle.board.specs.declared.Stepped.{Stepped}
+use Rattle.board.specs.declared.Doing.{Doing}
+use Rattle.board.specs.declared.Doing.TheVariants.{Reset, Fetch, Acknowledge, At}
 use Rattle.board.specs.Board.{ports, port_at, within, sound_board, request_of}
 
 -- ---- an event's four bytes
@@ -68,26 +72,20 @@ unfoldable pub refusal : Board → List ℕ → ℕ
 refusal b e = verdict (lines b e)
 
 -- ---- what an accepted event does
-pub data Doing : Type 0 where
-  reset : Doing
-  fetch : ℕ → Doing
-  acknowledge : Doing
-  at : ℕ → Event → Doing
-
 -- kinds: 0 reset, 1 opcode fetch, 2 interrupt acknowledge, 3 to 7 at a place
 unfoldable pub doing_of : List ℕ → Doing
 doing_of e =
-    if kind_of e is 0 then reset else
-    if kind_of e is 1 then fetch (value_of e) else
-    if kind_of e is 2 then acknowledge else
-    at (place_of e) (event_of (kind_of e) (value_of e))
+    if kind_of e is 0 then Reset else
+    if kind_of e is 1 then Fetch (value_of e) else
+    if kind_of e is 2 then Acknowledge else
+    At (place_of e) (event_of (kind_of e) (value_of e))
 
 -- what it changes of the chips that are there; `d` is the decoder before it
 abbrev pub change : Decoder → Doing → List Chip → List Chip
-change d reset cs = map chip.reset cs
-change d (fetch byte) cs = map chip.fetch (if reti_of d byte then retired cs else cs)
-change d acknowledge cs = acknowledged cs
-change d (at place e) cs = adjust (changed (side_of place) e) (place / 2) cs
+change d Reset cs = map chip.reset cs
+change d (Fetch byte) cs = map chip.fetch (if reti_of d byte then retired cs else cs)
+change d Acknowledge cs = acknowledged cs
+change d (At place e) cs = adjust (changed (side_of place) e) (place / 2) cs
 
 -- and then, at all places, registers follow and matches are seen
 abbrev pub after : Decoder → Doing → List Chip → List Chip
@@ -95,10 +93,10 @@ after d e cs = map settle (change d e cs)
 
 -- "Acknowledge and reset forget an open ED; other events do not"
 abbrev pub decoder_after : Decoder → Doing → Decoder
-decoder_after d reset = shut
-decoder_after d (fetch byte) = next_of d byte
-decoder_after d acknowledge = shut
-decoder_after d (at place e) = d
+decoder_after d Reset = shut
+decoder_after d (Fetch byte) = next_of d byte
+decoder_after d Acknowledge = shut
+decoder_after d (At place e) = d
 
 unfoldable pub taken : Board → Doing → Board
 taken b e = record {
@@ -113,22 +111,30 @@ answer code place value request = record { code = code; place = place; value = v
 
 -- code, place and value by the table; `value` is the event's. The board is that before the event, the request that after it
 abbrev pub answer_at : Board → ℕ → Event → ℕ → ℕ → Answer
-answer_at b place (control v) value request = answer 0 place value request
-answer_at b place (write v) value request = answer 0 place value request
-answer_at b place read value request = answer 1 place (shown_of (port_at b place)) request
-answer_at b place (strobe level) value request = answer 0 place value request
-answer_at b place (outside v) value request = answer 0 place value request
+answer_at b place (Control v) value request = answer 0 place value request
+answer_at b place (Write v) value request = answer 0 place value request
+answer_at b place Read value request = answer 1 place (shown_of (port_at b place)) request
+answer_at b place (Strobe level) value request = answer 0 place value request
+answer_at b place (Outside v) value request = answer 0 place value request
 
 abbrev pub answered : Board → Doing → ℕ → ℕ → Answer
-answered b reset value request = answer 0 0 value request
-answered b (fetch byte) value request = answer 0 0 value request
-answered b acknowledge value request =
+answered b Reset value request = answer 0 0 value request
+answered b (Fetch byte) value request = answer 0 0 value request
+answered b Acknowledge value request =
     if asks (ports b)
     then answer 2 (asker (ports b)) (port_at b (asker (ports b))).vector request
     else answer 3 0 255 request
-answered b (at place e) value request = answer_at b place e value request
+answered b (At place e) value request = answer_at b place e value request
+
+-- the four bytes of an answer
+unfoldable pub bytes_of : Answer → List ℕ
+bytes_of a = a.code ∷ a.place ∷ a.value ∷ a.request ∷ []
 
 -- ---- the step
+pub record Stepped : Type 0 where
+  pub board : Board
+  pub answer : Answer
+
 -- an accepted event
 unfoldable pub accepted : Board → List ℕ → Stepped
 accepted b e = record {

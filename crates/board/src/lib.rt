@@ -1,15 +1,19 @@
 // The board: one to four chips on one chain, and the decoder that listens to opcode fetches. Document 01, "Records": fresh board,
-// soundness, driven lines. A step has two halves, so that a run can keep the chips in a local array and move one of them: `plans`
-// reads the event's four bytes and says which chips it concerns, `steps` changes them. Their types and definitions are here.
+// soundness, driven lines. A step has two halves: `plans` reads the event's four bytes and says which chips it concerns, `steps` changes
+// them. Their types and definitions are here.
 #![tactic(auto)]
 
 ghost use Rattle.std.specs.Prelude.{◌≡◌, length};
 ghost use Rattle.chain.specs.Chain.{most};
-ghost use Rattle.board.specs.Board.{fresh_of, lines_of};
-ghost use Rattle.board.specs.Halves.{stirs, look_of};
+ghost use Rattle.board.specs.Board.{made_by, fresh_of, told_by, lines_of};
+ghost use Rattle.board.specs.Step.{bytes_of};
+ghost use Rattle.board.specs.Halves.{acted_of, stirs_port, stirs, seen_of, noted_of};
 
 use chain::{Decoder, MOST, Marks};
 use chip::Chip;
+use events::{Acted, Event};
+use port::Port;
+use refusals::Refusal;
 
 #[repr(C)]
 #[derive(Clone, Copy)]
@@ -29,104 +33,118 @@ pub struct Answer {
     pub request: u8,
 }
 
-#[derive(Clone, Copy)]
-pub struct Stepped {
-    pub board: Board,
-    pub answer: Answer,
+impl From<Answer> for [u8; 4] {
+    fn from(a: Answer) -> [u8; 4]
+        ensures { result ≡ bytes_of a }
+    {
+        [a.code, a.place, a.value, a.request]
+    }
 }
 
-// A fresh board, and 0 or 33.
-#[derive(Clone, Copy)]
-pub struct Made {
-    pub code: u8,
-    pub board: Board,
-}
-
-// The lines driven at a place, and 0 or a refusal.
+// The lines driven at a place: the levels, and a 1 for each driven line.
 #[derive(Clone, Copy)]
 pub struct Lines {
-    pub code: u8,
     pub levels: u8,
     pub driven: u8,
 }
 
-// What one look at every chip tells: whether the board is sound, whether a fetch would make a port live, and the chain's marks.
+// What an accepted event does.
 #[derive(Clone, Copy)]
-pub struct Look {
-    pub sound: bool,
-    pub due: bool,
-    pub marks: Marks,
+pub enum Doing {
+    Reset,
+    Fetch(u8),
+    Acknowledge,
+    At(u8, Event),
 }
 
-// What an event asks of the board. `whole`: of every chip; `one`: of the chip `chip`, at its second port if `second`. Neither: the
-// answer is known and only the decoder changes.
+// What is known of the chips of a sound board, so that no record needs a look at all of them: the chain's marks, whether a fetch could
+// make a port live, and the request.
 #[derive(Clone, Copy)]
-pub struct Plan {
-    pub whole: bool,
-    pub one: bool,
-    pub chip: usize,
-    pub second: bool,
-    pub kind: u8,
+pub struct Look {
+    pub marks: Marks,
+    pub due: bool,
+    pub request: u8,
+}
+
+// What happens to one port: a RETI releases it, it answers an acknowledge, or an event of kinds 3 to 7 concerns it.
+#[derive(Clone, Copy)]
+pub enum Touch {
+    Release,
+    Serve,
+    Act(Event),
+}
+
+// What happens to every chip: a reset, or a fetch, which makes ports live.
+#[derive(Clone, Copy)]
+pub enum Sweep {
+    Clear,
+    Wake,
+}
+
+// What an accepted event asks of the chips: nothing, and the answer is known; of one port; or of every chip, where a RETI first
+// releases the port at the place `freed`.
+#[derive(Clone, Copy)]
+pub enum Plan {
+    Nothing(Answer),
+    One { place: u8, touch: Touch },
+    Each { freed: Option<u8>, sweep: Sweep },
+}
+
+// A chip after what happened to one of its ports, with the answer's code, place and value.
+#[derive(Clone, Copy)]
+pub struct Touched {
+    pub chip: Chip,
     pub code: u8,
     pub place: u8,
     pub value: u8,
-    pub request: u8,
-    pub marks: Marks,
-    pub decoder: Decoder,
 }
 
-// One chip after an event, with the marks of all, the answer, and whether a fetch would make one of its ports live.
-#[derive(Clone, Copy)]
-pub struct Changed {
-    pub chip: Chip,
-    pub marks: Marks,
-    pub due: bool,
-    pub answer: Answer,
+impl Touched {
+    // What came of an event of kinds 3 to 7 at the chip `c`.
+    pub fn acted(c: Chip, place: u8, value: u8, outcome: Result<Acted, Refusal>) -> Touched
+        ensures { result ≡ acted_of c place value outcome }
+    {
+        let mut chip = c;
+        let mut code = 0;
+        let mut shown = value;
+        match outcome {
+            Ok(acted) => {
+                chip = acted.chip;
+                if let Some(byte) = acted.shown {
+                    code = 1;
+                    shown = byte;
+                }
+            }
+            Err(refusal) => code = refusal.into(),
+        }
+        Touched {
+            chip: chip,
+            code: code,
+            place: place,
+            value: shown,
+        }
+    }
 }
 
-// Every chip after an event, with their marks and the answer.
-#[derive(Clone, Copy)]
-pub struct Swept {
-    pub chips: [Chip; MOST],
-    pub marks: Marks,
-    pub answer: Answer,
-}
-
-// A fresh board of `size` chips; 33 and a board of size 0 for a size that no board has.
-pub fn fresh(size: usize) -> Made
-    ensures { result ≡ fresh_of size }
+// A fresh board of `size` chips.
+pub fn fresh(size: usize) -> Result<Board, Refusal>
+    ensures { made_by result ≡ fresh_of size }
 {
-    let c = chip::fresh_chip();
-    let chips = [c; MOST];
-    let decoder = Decoder { prefix: 0 };
-    if size == 0 {
-        return Made {
-            code: 33,
-            board: Board {
-                size: 0,
-                chips: chips,
-                decoder: decoder,
-            },
-        };
+    if (size < 1) | (size > MOST) {
+        return Err(Refusal::Size);
     }
-    if size > MOST {
-        return Made {
-            code: 33,
-            board: Board {
-                size: 0,
-                chips: chips,
-                decoder: decoder,
-            },
-        };
-    }
-    Made {
-        code: 0,
-        board: Board {
-            size: size as u8,
-            chips: chips,
-            decoder: decoder,
-        },
-    }
+    Ok(Board {
+        size: size as u8,
+        chips: [chip::fresh_chip(); MOST],
+        decoder: Decoder { prefix: 0 },
+    })
+}
+
+// Whether a fetch would make the port live.
+fn stirred_port(p: Port) -> bool
+    ensures { result ≡ stirs_port p }
+{
+    p.asked & !(p.awaiting == 2) & !p.live
 }
 
 // Whether a fetch would make a port of the chip live.
@@ -134,63 +152,59 @@ pub fn fresh(size: usize) -> Made
 pub fn stirred(c: Chip) -> bool
     ensures { result ≡ stirs c }
 {
-    let a = c.a;
-    let b = c.b;
-    (a.asked & !(a.awaiting == 2) & !a.live) | (b.asked & !(b.awaiting == 2) & !b.live)
+    stirred_port(c.a) | stirred_port(c.b)
 }
 
-// One look at every chip that is there. The row's length is promised for callers whose row is a board's field.
-#[tactic(auto, using(crate::proofs::Loops::in_list))]
-pub fn look_over(size: u8, chips: [Chip; MOST]) -> Look
-    ensures { (result ≡ look_of size chips) × (length chips ≡ most) }
+impl Look {
+    // What is known where the chip `k` is now `c`.
+    #[tactic(auto, unfolding(crate::specs::Halves::noted_of))]
+    pub fn noting(self, k: usize, c: Chip) -> Look
+        ensures { result ≡ noted_of self k c }
+    {
+        Look {
+            marks: chain::marked(self.marks, k, c),
+            due: self.due | stirred(c),
+            request: chain::renewed(self.marks, k, c, self.request),
+        }
+    }
+}
+
+// One look at every chip that is there; refused where the board is not sound.
+pub fn look_over(board: &Board) -> Result<Look, Refusal>
+    ensures { (result ≡ seen_of board.now) × (length board.now.chips ≡ most) }
 {
-    let n = size as usize;
+    let n = board.size as usize;
     let mut sound = (n >= 1) & (n <= MOST);
     let mut due = false;
     let mut marks = chain::unmarked();
-    let mut i: usize = 0;
-    while (i < MOST) & (i < n) {
-        let c = chips[i];
+    for k in 0..n.min(MOST) {
+        let c = board.chips[k];
         sound = sound & chip::sound(c);
         due = due | stirred(c);
-        let more = chain::marked(marks, i, c);
-        marks = more;
-        i += 1;
+        marks = chain::marked(marks, k, c);
     }
-    Look {
-        sound: sound,
-        due: due,
+    if !sound {
+        return Err(Refusal::Unsound);
+    }
+    Ok(Look {
         marks: marks,
-    }
+        due: due,
+        request: chain::caller(marks),
+    })
 }
 
-// The lines driven at a place: the levels, and a 1 for each driven line.
-#[tactic(auto, using(crate::proofs::Steps::lines_unsound, crate::proofs::Steps::lines_beyond, crate::proofs::Steps::in_array, crate::proofs::Steps::lines_there))]
-pub fn driven_lines(board: Board, place: usize) -> Lines
-    ensures { result ≡ lines_of board place }
+// The lines driven at a place.
+pub fn driven_lines(board: &Board, place: usize) -> Result<Lines, Refusal>
+    ensures { told_by result ≡ lines_of board.now place }
 {
-    let chips = board.chips;
-    let seen = look_over(board.size, chips);
-    if !seen.sound {
-        return Lines {
-            code: 35,
-            levels: 0,
-            driven: 0,
-        };
-    }
+    look_over(board)?;
     let k = place / 2;
     if k >= board.size as usize {
-        return Lines {
-            code: 17,
-            levels: 0,
-            driven: 0,
-        };
+        return Err(Refusal::Place);
     }
-    let c = chips[k];
-    let p = chip::port_of(c, place % 2 == 1);
-    Lines {
-        code: 0,
+    let p = chip::port_of(board.chips[k], place % 2 == 1);
+    Ok(Lines {
         levels: port::levels(p),
         driven: port::driven(p),
-    }
+    })
 }

@@ -2,8 +2,7 @@
 -- Assumes nothing.
 use Rattle.std.specs.Prelude.{List, [], ◌∷◌, ◌++◌, ℕ}
 use Rattle.board.specs.declared.Board.{Board}
-use Rattle.board.specs.declared.Answer.{Answer}
-use Rattle.board.specs.Step.{step_of}
+use Rattle.board.specs.Step.{bytes_of, step_of}
 
 -- "Records have one size, 4 bytes, and no header"
 unfoldable pub records : List ℕ → List (List ℕ)
@@ -12,10 +11,6 @@ records (a ∷ []) = []
 records (a ∷ b ∷ []) = []
 records (a ∷ b ∷ c ∷ []) = []
 records (a ∷ b ∷ c ∷ d ∷ rest) = (a ∷ b ∷ c ∷ d ∷ []) ∷ records rest
-
--- the four bytes of an answer
-unfoldable pub bytes_of : Answer → List ℕ
-bytes_of a = a.code ∷ a.place ∷ a.value ∷ a.request ∷ []
 
 -- the board after the events, refused ones included, each its four bytes
 unfoldable pub steps_of : Board → List (List ℕ) → Board

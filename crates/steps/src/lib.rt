@@ -1,165 +1,139 @@
-// What an event changes: document 01, "Records", the second half of a step, at one chip (`step_chip`) or at all (`step_chips`); and
-// the step, which is its two halves. The definitions are the board's.
+// What an event changes: document 01, "Records", the second half of a step, at one chip or at all; and one record on a sound board, which
+// is both halves. The definitions are the board's.
 #![tactic(auto)]
 
 ghost use Rattle.std.specs.Prelude.{◌≡◌};
-ghost use Rattle.board.specs.Step.{step_of};
-ghost use Rattle.board.specs.Halves.{touched_of, changed_of, sweep_of, freed_of, swept_of};
+ghost use Rattle.board.specs.Halves.{touched_of, sweep_of, freed_chips, swept_of, advanced, changed_of, with_swept, carried, advanced_of};
 
-use board::{Answer, Board, Changed, Plan, Stepped, Swept};
+use board::{Answer, Board, Look, Plan, Sweep, Touch, Touched};
 use chain::MOST;
 use chip::Chip;
 
 // What happens to the one chip that the event concerns.
-fn touch(c: Chip, w: Plan) -> events::Acted
-    ensures { result ≡ touched_of c w }
+fn touch(c: Chip, place: u8, what: Touch, value: u8) -> Touched
+    ensures { result ≡ touched_of c place what value }
 {
-    if w.kind == 1 {
-        let d = chip::release_port(c, w.second);
-        return events::Acted {
-            chip: d,
+    let on_b = place % 2 == 1;
+    match what {
+        Touch::Release => Touched {
+            chip: chip::release_port(c, on_b),
             code: 0,
-            value: w.value,
-        };
-    }
-    if w.kind == 2 {
-        let p = chip::port_of(c, w.second);
-        let d = chip::serve_port(c, w.second);
-        return events::Acted {
-            chip: d,
-            code: 2,
-            value: p.vector,
-        };
-    }
-    events::act(c, w.second, w.kind, w.value)
-}
-
-// The second half of a step that concerns one chip: that chip after it, and the answer.
-pub fn step_chip(c: Chip, w: Plan) -> Changed
-    ensures { result ≡ changed_of c w }
-{
-    let old = w.marks;
-    if !w.one {
-        return Changed {
-            chip: c,
-            marks: old,
-            due: board::stirred(c),
-            answer: Answer {
-                code: w.code,
-                place: w.place,
-                value: w.value,
-                request: w.request,
-            },
-        };
-    }
-    let r = touch(c, w);
-    let d = r.chip;
-    let marks = chain::marked(old, w.chip, d);
-    Changed {
-        chip: d,
-        marks: marks,
-        due: board::stirred(d),
-        answer: Answer {
-            code: r.code,
-            place: w.place,
-            value: r.value,
-            request: chain::caller(marks),
+            place: 0,
+            value: value,
         },
+        Touch::Serve => {
+            let p = chip::port_of(c, on_b);
+            Touched {
+                chip: chip::serve_port(c, on_b),
+                code: 2,
+                place: place,
+                value: p.vector,
+            }
+        }
+        Touch::Act(event) => Touched::acted(c, place, value, events::act(c, on_b, event)),
     }
 }
 
-// One chip of a reset (kind 0) or a fetch.
-fn sweep(kind: u8, c: Chip) -> Chip
-    ensures { result ≡ sweep_of kind c }
+// The place's chip is changed: it is put back, what is known follows, and the answer tells the request.
+pub fn put(board: &mut Board, look: &mut Look, place: u8, t: Touched) -> Answer
+    ensures { advanced board.new look.new result ≡ changed_of board.old look.old place t }
 {
-    if kind == 0 {
-        return chip::reset_chip(c);
+    let k = place as usize / 2 % MOST;
+    board.chips[k] = t.chip;
+    *look = look.noting(k, t.chip);
+    Answer {
+        code: t.code,
+        place: t.place,
+        value: t.value,
+        request: look.request,
     }
-    chip::fetch_chip(c)
+}
+
+// One chip of a reset or of a fetch.
+fn sweep_chip(sweep: Sweep, c: Chip) -> Chip
+    ensures { result ≡ sweep_of sweep c }
+{
+    match sweep {
+        Sweep::Clear => chip::reset_chip(c),
+        Sweep::Wake => chip::fetch_chip(c),
+    }
 }
 
 // The chips after the release that a RETI asks.
-fn freed(chips: [Chip; MOST], w: Plan) -> [Chip; MOST]
-    ensures { result ≡ freed_of chips w }
+fn freed(chips: [Chip; MOST], freed: Option<u8>) -> [Chip; MOST]
+    ensures { result ≡ freed_chips chips freed }
 {
-    if !w.one {
-        return chips;
-    }
-    let k = w.chip;
-    if k >= MOST {
-        return chips;
-    }
-    let c = chips[k];
-    let d = chip::release_port(c, w.second);
     let mut next = chips;
-    next[k] = d;
+    if let Some(place) = freed {
+        let k = place as usize / 2 % MOST;
+        next[k] = chip::release_port(chips[k], place % 2 == 1);
+    }
     next
 }
 
-// The second half of a step that concerns every chip: the chips after it, and the answer.
-pub fn step_chips(size: u8, chips: [Chip; MOST], w: Plan) -> Swept
-    ensures { result ≡ swept_of size chips w }
+// Every chip that is there, and what is known, after a reset or a fetch. Of such chips a fetch would make no port live.
+fn sweep_each(
+    board: &mut Board,
+    look: &mut Look,
+    free: Option<u8>,
+    sweep: Sweep,
+    value: u8,
+) -> Answer
+    ensures { advanced board.new look.new result ≡ with_swept board.old (swept_of board.old.size board.old.chips free sweep) value }
 {
-    let old = freed(chips, w);
-    let n = size as usize;
-    let mut next = old;
+    let old = freed(board.chips, free);
+    let mut chips = old;
     let mut marks = chain::unmarked();
-    let mut i: usize = 0;
-    while (i < MOST) & (i < n) {
-        let c = old[i];
-        let d = sweep(w.kind, c);
-        next[i] = d;
-        let more = chain::marked(marks, i, d);
-        marks = more;
-        i += 1;
+    for k in 0..MOST.min(board.size as usize) {
+        let d = sweep_chip(sweep, old[k]);
+        chips[k] = d;
+        marks = chain::marked(marks, k, d);
     }
-    Swept {
-        chips: next,
+    board.chips = chips;
+    let request = chain::caller(marks);
+    *look = Look {
         marks: marks,
-        answer: Answer {
-            code: 0,
-            place: 0,
-            value: w.value,
-            request: chain::caller(marks),
-        },
+        due: false,
+        request: request,
+    };
+    Answer {
+        code: 0,
+        place: 0,
+        value: value,
+        request: request,
     }
 }
 
-// One step: the board after the event, and the answer.
-pub fn step(board: Board, event: &[u8]) -> Stepped
-    ensures { result ≡ step_of board event.now }
+// The second half of a step.
+fn carry(board: &mut Board, look: &mut Look, plan: Plan, value: u8) -> Answer
+    ensures { advanced board.new look.new result ≡ carried board.old look.old plan value }
 {
-    let w = plans::step_looks(board, event);
-    let size = board.size;
-    let mut chips = board.chips;
-    let decoder = w.decoder;
-    if w.whole {
-        let s = step_chips(size, chips, w);
-        let all = s.chips;
-        let b = Board {
-            size: size,
-            chips: all,
-            decoder: decoder,
-        };
-        let a = s.answer;
-        return Stepped {
-            board: b,
-            answer: a,
-        };
+    match plan {
+        Plan::Nothing(answer) => answer,
+        Plan::One { place, touch: what } => {
+            let c = board.chips[place as usize / 2 % MOST];
+            put(board, look, place, touch(c, place, what, value))
+        }
+        Plan::Each { freed, sweep } => sweep_each(board, look, freed, sweep, value),
     }
-    let k = w.chip;
-    let c = chips[k];
-    let r = step_chip(c, w);
-    let d = r.chip;
-    chips[k] = d;
-    let b = Board {
-        size: size,
-        chips: chips,
-        decoder: decoder,
-    };
-    let a = r.answer;
-    Stepped {
-        board: b,
-        answer: a,
+}
+
+// One event of four bytes on a sound board: the board and what is known of it are moved on.
+pub fn advance(board: &mut Board, look: &mut Look, event: [u8; 4]) -> Answer
+    ensures { advanced board.new look.new result ≡ advanced_of board.old look.old event }
+{
+    let [_, place, value, _] = event;
+    match plans::read_event(board.size, event) {
+        Ok(doing) => {
+            let plan = plans::plan(board.decoder, *look, doing);
+            board.decoder = plans::listen(board.decoder, doing);
+            carry(board, look, plan, value)
+        }
+        Err(refusal) => Answer {
+            code: refusal.into(),
+            place: place,
+            value: value,
+            request: look.request,
+        },
     }
 }
