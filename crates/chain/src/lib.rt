@@ -91,16 +91,14 @@ pub fn marked(marks: Marks, k: usize, c: Chip) -> Marks
 pub fn caller(marks: Marks) -> u8
     ensures { result ≡ caller_of marks }
 {
-    let mut i: usize = 0;
-    while i < MOST {
-        let met = marks[i] % 4;
+    for (i, mark) in marks.iter().enumerate() {
+        let met = mark % 4;
         if met == 3 {
             return 0;
         }
         if met != 0 {
             return 2 * i as u8 + met;
         }
-        i += 1;
     }
     0
 }
@@ -127,13 +125,11 @@ pub fn renewed(marks: Marks, k: usize, c: Chip, request: u8) -> u8
 pub fn holder(marks: Marks) -> Option<usize>
     ensures { held_by result ≡ holder_of marks }
 {
-    let mut i: usize = 0;
-    while i < MOST {
-        let held = marks[i] / 4 % 4;
+    for (i, mark) in marks.iter().enumerate() {
+        let held = mark / 4 % 4;
         if held != 0 {
             return Some(2 * i + held as usize - 1);
         }
-        i += 1;
     }
     None
 }

@@ -1,13 +1,8 @@
 -- `chain::caller`'s loop: the search from here on gives the whole answer.
 -- Assumes nothing.
-use Rattle.std.proofs.Common.{◌-◌, ◌≤◌}
-use Rattle.chain.specs.Chain.{most}
 use Rattle.chain.specs.Marks.{caller_of}
 use Rattle.chain.proofs.Scans.{Searching}
 use Rattle.chain.proofs.caller.Given as goal
 
 abbrev pub invariant-loop-i : goal.invariant-loop-i
-invariant-loop-i l = Searching caller_of l.marks l.i × (l.i ≤ most)
-
-abbrev pub decreases-loop-i : goal.decreases-loop-i
-decreases-loop-i l = most - l.i
+invariant-loop-i l = Searching caller_of l.mark-items l.i
