@@ -14,6 +14,7 @@ fn active_lines(lines: u8, high: bool) -> u8
 
 // Whether the lines match: the input lines with mask bit 0, some (OR) or all (AND) of them at the active level. All are if none is at
 // the other level, so that one test does for both, and no branch.
+#[tactic(auto, using(crate::proofs::Match::by_both))]
 pub fn matches(select: u8, mask: u8, lines: u8, high: bool, all: bool) -> bool
     ensures { result ≡ match_of select mask lines high all }
 {
@@ -23,6 +24,7 @@ pub fn matches(select: u8, mask: u8, lines: u8, high: bool, all: bool) -> bool
 }
 
 // What a read in bit control shows: the line on input bits, the output register on output bits.
+#[tactic(auto, using(crate::proofs::Match::mixing))]
 pub fn mixed(select: u8, lines: u8, out: u8) -> u8
     ensures { result ≡ mixed_of select lines out }
 {
@@ -30,6 +32,7 @@ pub fn mixed(select: u8, lines: u8, out: u8) -> u8
 }
 
 // The levels of the driven lines; an undriven line shows 0.
+#[tactic(auto, using(crate::proofs::Match::driving))]
 pub fn levels(out: u8, driven: u8) -> u8
     ensures { result ≡ levels_of out driven }
 {

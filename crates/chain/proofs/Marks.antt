@@ -89,6 +89,26 @@ held_chip false true false s n l e = up_is n ∙ rw e
 held_chip false false false true n l e = up_is n ∙ rw e
 held_chip false false false false n l e = up_is n ∙ rw e
 
+-- what the code chooses, whatever the four bits are: A under service, A ready, B under service, B ready
+digit :
+    (s r t u : Bool)
+    → (if s then 7 else if r then (if t then 9 else 1) else if t then 11 else if u then 2 else 0)
+    ≡ (if s then 3 else if r then 1 else if t then 3 else if u then 2 else 0) + 4 * (if s then 1 else if t then 2 else 0)
+digit true r t u = refl
+digit false true true u = refl
+digit false true false u = refl
+digit false false true u = refl
+digit false false false true = refl
+digit false false false false = refl
+
+pub chosen :
+    (c : Chip) (last behind first other mark : ℕ)
+    → last ≡ (if c.b.waiting && c.b.live then 2 else 0) → behind ≡ (if c.b.service then 11 else last) → first ≡ (if c.b.service then 9 else 1)
+    → other ≡ (if c.a.waiting && c.a.live then first else behind) → mark ≡ (if c.a.service then 7 else other) → mark ≡ mark_of c
+unfolding mark_of
+chosen c last behind first other mark e f g h i =
+    rw (i, h, g, f, e) (digit c.a.service (c.a.waiting && c.a.live) c.b.service (c.b.waiting && c.b.live))
+
 -- ---- the row of chips
 no_caller : (cs : List Chip) → caller_of (marks_of zero cs) ≡ 0
 unfolding caller_of

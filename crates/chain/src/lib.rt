@@ -51,6 +51,7 @@ fn choose(first: bool, x: u8, y: u8) -> u8
 }
 
 // What the chain needs to know of a chip. No branch hangs on the ports' flags: nobody can foretell them.
+#[tactic(auto, using(crate::proofs::Marks::chosen))]
 fn mark(c: Chip) -> u8
     ensures { result ≡ mark_of c }
 {

@@ -16,6 +16,7 @@ pub struct Chip {
 }
 
 // One port of the chip.
+#[tactic(auto, using(crate::proofs::Ways::port_b, crate::proofs::Ways::port_a))]
 pub fn port_of(c: Chip, on_b: bool) -> Port
     ensures { result ≡ port (side on_b) c }
 {
@@ -40,6 +41,7 @@ pub fn follows(c: Chip, on_b: bool) -> bool
 }
 
 // What a sound board asks of one chip.
+#[tactic(auto, using(crate::proofs::Ways::both_sound))]
 pub fn sound(c: Chip) -> bool
     ensures { result ≡ sound_chip c }
 {
@@ -50,6 +52,7 @@ pub fn sound(c: Chip) -> bool
 }
 
 // After an accepted event, at both ports: registers that follow take their lines, matches that became true make a port wait.
+#[tactic(auto, using(crate::proofs::Ways::both_settled))]
 pub fn settle_chip(c: Chip) -> Chip
     ensures { result ≡ settle c }
 {
@@ -63,6 +66,7 @@ pub fn settle_chip(c: Chip) -> Chip
 }
 
 // An opcode fetch, at both ports.
+#[tactic(auto, using(crate::proofs::Ways::both_woken))]
 pub fn fetch_chip(c: Chip) -> Chip
     ensures { result ≡ fetch c }
 {
@@ -101,6 +105,7 @@ pub fn release_port(c: Chip, on_b: bool) -> Chip
 }
 
 // A reset, and the settling after it.
+#[tactic(auto, using(crate::proofs::Ways::both_cleared))]
 pub fn reset_chip(c: Chip) -> Chip
     ensures { result ≡ settle (reset c) }
 {
@@ -112,6 +117,7 @@ pub fn reset_chip(c: Chip) -> Chip
 }
 
 // A chip of a fresh board.
+#[tactic(auto, using(crate::proofs::Ways::both_fresh))]
 pub fn fresh_chip() -> Chip
     ensures { result ≡ chip_fresh }
 {

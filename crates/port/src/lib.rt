@@ -31,10 +31,11 @@ pub struct Port {
 pub fn write(p: Port, off: bool, value: u8) -> Port
     ensures { result ≡ written off value p }
 {
-    let mut q = p;
-    q.out = value;
-    q.ready = p.ready | (!off & ((p.mode == 0) | (p.mode == 2)));
-    q
+    Port {
+        out: value,
+        ready: p.ready | (!off & ((p.mode == 0) | (p.mode == 2))),
+        ..p
+    }
 }
 
 // The byte that the CPU reads.
@@ -54,9 +55,10 @@ pub fn shown(p: Port) -> u8
 pub fn access(p: Port, off: bool) -> Port
     ensures { result ≡ accessed off p }
 {
-    let mut q = p;
-    q.ready = p.ready | (!off & (p.mode == 1));
-    q
+    Port {
+        ready: p.ready | (!off & (p.mode == 1)),
+        ..p
+    }
 }
 
 // The Strobe line goes to `level`. `acts`: its rise ends a handshake.
@@ -64,20 +66,19 @@ pub fn strobe(p: Port, acts: bool, level: bool) -> Port
     ensures { result ≡ strobed acts level p }
 {
     let ends = !p.strobe & level & acts;
-    let mut q = p;
-    q.strobe = level;
-    q.ready = p.ready & !ends;
-    q.waiting = p.waiting | ends;
-    q
+    Port {
+        strobe: level,
+        ready: p.ready & !ends,
+        waiting: p.waiting | ends,
+        ..p
+    }
 }
 
 // The outside levels of the eight lines.
 pub fn set_lines(p: Port, value: u8) -> Port
     ensures { result ≡ lines_now value p }
 {
-    let mut q = p;
-    q.lines = value;
-    q
+    Port { lines: value, ..p }
 }
 
 // A 1 for each line that the port drives.
@@ -108,46 +109,50 @@ pub fn levels(p: Port) -> u8
 pub fn wake(p: Port) -> Port
     ensures { result ≡ woken p }
 {
-    let mut q = p;
-    q.live = p.live | (p.asked & !(p.awaiting == 2));
-    q
+    Port {
+        live: p.live | (p.asked & !(p.awaiting == 2)),
+        ..p
+    }
 }
 
 // The port answers an acknowledge.
 pub fn serve(p: Port) -> Port
     ensures { result ≡ served p }
 {
-    let mut q = p;
-    q.waiting = false;
-    q.service = true;
-    q
+    Port {
+        waiting: false,
+        service: true,
+        ..p
+    }
 }
 
 // RETI ends the port's service.
 pub fn release(p: Port) -> Port
     ensures { result ≡ released p }
 {
-    let mut q = p;
-    q.service = false;
-    q
+    Port {
+        service: false,
+        ..p
+    }
 }
 
 // A reset.
 pub fn reset(p: Port) -> Port
     ensures { result ≡ cleared p }
 {
-    let mut q = p;
-    q.mode = 1;
-    q.ready = false;
-    q.mask = 255;
-    q.out = 0;
-    q.asked = false;
-    q.live = false;
-    q.waiting = false;
-    q.service = false;
-    q.awaiting = 0;
-    q.matched = false;
-    q
+    Port {
+        mode: 1,
+        ready: false,
+        mask: 255,
+        out: 0,
+        asked: false,
+        live: false,
+        waiting: false,
+        service: false,
+        awaiting: 0,
+        matched: false,
+        ..p
+    }
 }
 
 // A port of a fresh board.

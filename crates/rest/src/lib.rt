@@ -9,6 +9,7 @@ ghost use Rattle.port.specs.Sound.{sound_of};
 use port::Port;
 
 // Whether the lines match now, which they do only in mode 3 with no word awaited.
+#[tactic(auto, unfolding(port::specs::Rules::match_now))]
 pub fn matching(p: Port) -> bool
     ensures { result ≡ match_now p }
 {
@@ -20,16 +21,16 @@ pub fn settle(p: Port, follows: bool, watched: bool) -> Port
     ensures { result ≡ settled follows watched p }
 {
     let now = matching(p) & watched;
-    let mut q = p;
-    q.matched = now;
-    q.waiting = p.waiting | (now & !p.matched);
-    if follows {
-        q.input = p.lines;
+    Port {
+        matched: now,
+        waiting: p.waiting | (now & !p.matched),
+        input: if follows { p.lines } else { p.input },
+        ..p
     }
-    q
 }
 
 // What a sound board asks of one port. The faults are joined, not the merits: it takes fewer instructions.
+#[tactic(auto, using(crate::proofs::Faults::faultless))]
 pub fn sound(p: Port, on_b: bool, follows: bool, watched: bool) -> bool
     ensures { result ≡ sound_of on_b follows watched p }
 {

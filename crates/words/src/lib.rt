@@ -61,49 +61,53 @@ pub fn hear(awaiting: u8, on_b: bool, value: u8) -> Result<Word, Refusal>
 pub fn obey(p: Port, linked: bool, w: Word) -> Port
     ensures { result ≡ obeyed linked p w }
 {
-    let mut q = p;
     match w {
-        Word::Vector(v) => {
-            q.vector = v;
-        }
-        Word::Mode(m) => {
-            q.mode = m;
-            q.ready = p.ready & linked;
-            if m == 3 {
-                q.awaiting = 1;
-            } else {
-                q.awaiting = 0;
-            }
-        }
+        Word::Vector(v) => Port { vector: v, ..p },
+        Word::Mode(m) => Port {
+            mode: m,
+            ready: p.ready & linked,
+            awaiting: if m == 3 { 1 } else { 0 },
+            ..p
+        },
         Word::Interrupt {
             enable,
             all,
             high,
             masked,
         } => {
-            q.asked = enable;
-            q.all = all;
-            q.high = high;
             if masked {
-                q.live = false;
-                q.waiting = false;
-                q.awaiting = 2;
-            } else {
-                q.live = enable & p.live;
+                return Port {
+                    asked: enable,
+                    all: all,
+                    high: high,
+                    live: false,
+                    waiting: false,
+                    awaiting: 2,
+                    ..p
+                };
+            }
+            Port {
+                asked: enable,
+                all: all,
+                high: high,
+                live: enable & p.live,
+                ..p
             }
         }
-        Word::Enable(on) => {
-            q.asked = on;
-            q.live = on & p.live;
-        }
-        Word::Select(v) => {
-            q.select = v;
-            q.awaiting = 0;
-        }
-        Word::Mask(v) => {
-            q.mask = v;
-            q.awaiting = 0;
-        }
+        Word::Enable(on) => Port {
+            asked: on,
+            live: on & p.live,
+            ..p
+        },
+        Word::Select(v) => Port {
+            select: v,
+            awaiting: 0,
+            ..p
+        },
+        Word::Mask(v) => Port {
+            mask: v,
+            awaiting: 0,
+            ..p
+        },
     }
-    q
 }

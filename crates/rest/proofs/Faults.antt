@@ -1,16 +1,13 @@
--- `rest::sound` meets its contract: what `matching` answers is the match now, and no fault is every merit.
+-- No fault is every merit: what `rest::sound` computes is soundness.
 -- Assumes nothing.
 use mathlib.Core.Path.{◌≡◌, refl}
 use mathlib.Core.Bool.{Bool, true, false, ◌&&◌, ◌||◌, not, beq}
 use Prim.Native.Nat.{◌%◌}
 use lib.Dec.{ltb}
-use borrow.Author.Rules.{rules}
 use Rattle.bits.specs.Bits.{◌is◌}
 use Rattle.port.specs.Rules.{match_now}
 use Rattle.port.specs.Sound.{sound_of}
 use Rattle.port.specs.declared.Port.{Port}
-use Rattle.rest.proofs.sound.Statement.{statement}
-use Rattle.rest.proofs.sound.Tie as tie
 
 -- ---- Bool's own laws
 not_or : (a b : Bool) → not (a || b) ≡ (not a && not b)
@@ -54,16 +51,9 @@ module _ (on_b follows watched m : Bool) (p : Port) (e : m ≡ match_now p) wher
       fault (ltb p.mode 4) (on_b && (p.mode is 2)) (p.vector % 2 is 0) p.live p.asked follows (p.input is p.lines)
       (beq p.matched (m && watched))
 
-  faultless : not (faults || (not (ltb p.awaiting 3) || ((p.awaiting is 1) && not (p.mode is 3)) || (p.live && (p.awaiting is 2)))) ≡ sound_of on_b follows watched p
+  pub faultless : not (faults || (not (ltb p.awaiting 3) || ((p.awaiting is 1) && not (p.mode is 3)) || (p.live && (p.awaiting is 2)))) ≡ sound_of on_b follows watched p
   faultless =
       rw (← e, ← awaits (ltb p.awaiting 3) (p.awaiting is 1) (p.mode is 3) p.live (p.awaiting is 2))
       (merits (ltb p.mode 4) (on_b && (p.mode is 2)) (p.vector % 2 is 0) p.live p.asked follows (p.input is p.lines)
       (beq p.matched (m && watched))
       (not (ltb p.awaiting 3) || ((p.awaiting is 1) && not (p.mode is 3)) || (p.live && (p.awaiting is 2))))
-
-pub sound_spec : {M : Type 1} → statement M
-sound_spec =
-    tie.close
-    (tie.spec
-    (λ c κs. search rules)
-    (λ c. search faultless))
