@@ -1,0 +1,4 @@
+pub mod Failures
+pub mod Parts
+pub mod Sizes
+pub mod Turns

@@ -1,0 +1,2 @@
+pub mod Failures
+pub mod Pages

@@ -1,0 +1,148 @@
+// What the three programs share: zeros, what they say of a failure, what they ask the command line, and the loop that reads records and
+// writes a program's text of them. What comes and where it goes is known to a contract only where a reader's or a writer's bytes are.
+#![tactic(auto)]
+
+ghost use Rattle.std.specs.Prelude.{◌≡◌, ◌+◌, ◌≤◌, ℕ, List, length, replicate, IsTrue, take, IfOk, MatchResult};
+ghost use Rattle.std.specs.Io.KnownBytes.{Appends, Consumes, Keeps};
+ghost use Rattle.buffers.specs.Splice.{Wrote};
+ghost use Rattle.station.specs.Pages.{GoesOn, Shown};
+ghost use Rattle.station.specs.Failures.{why_of};
+
+use std::env::FillError;
+use std::io::{Cursor, Error, ErrorKind, Read, Result, Write};
+use std::rt::Env;
+
+// A buffer of zeros.
+pub fn zeros<const N: usize>() -> [u8; N]
+    ensures { result ≡ replicate N 0 }
+{
+    [0; N]
+}
+
+// The system's words for a failure: std puts the system's number behind them.
+pub fn why(words: &str) -> &str
+    ensures { result.now ≡ why_of words.now }
+{
+    match words.split_once(" (os error ") {
+        Some((why, _)) => why,
+        None => words,
+    }
+}
+
+// Says what failed and why.
+pub fn fail<W: Write>(stderr: &mut W, what: &[u8], error: Error) {
+    let mut words = Cursor::new([0u8; 128]);
+    let _ = write!(words, "{error}");
+    let bytes = words.into_inner();
+    let text = std::str::from_utf8(&bytes)
+        .unwrap_or("")
+        .trim_end_matches('\0');
+    let _ = stderr.write_all(what);
+    let _ = writeln!(stderr, ": {}", why(text));
+}
+
+// Writes the text, and answers whether all of it was taken. A reader that has left is no failure to speak of.
+pub fn write_text<O: Write, E: Write>(stdout: &mut O, stderr: &mut E, text: &[u8]) -> bool
+    ensures { IsTrue result → Appends (O.contents stdout.old) (O.contents stdout.new) text.now }
+{
+    match stdout.write_all(text) {
+        Ok(()) => true,
+        Err(error) => {
+            if error.kind() != ErrorKind::BrokenPipe {
+                fail(stderr, b"standard output", error);
+            }
+            false
+        }
+    }
+}
+
+// How many words the program was started with, its own name among them.
+pub fn arg_count(rt: &impl Env) -> usize {
+    for i in 0..usize::MAX {
+        if let Err(FillError::NotPresent) = rt.arg(i, &mut []) {
+            return i;
+        }
+    }
+    usize::MAX
+}
+
+#[tactic(auto, using(crate::proofs::Sizes::at_most_4))]
+// The size that an argument asks for: 4 without one, and 0, which no board has, where it is no size.
+pub fn size_asked(rt: &impl Env, argument: usize) -> usize
+    ensures { result ≤ 4 }
+{
+    let mut word = [0u8; 4096];
+    match rt.arg(argument, &mut word) {
+        Ok(n) => text::size_in(&word[..n]),
+        Err(FillError::NotPresent) => 4,
+        Err(FillError::TooLong) => 0,
+    }
+}
+
+// Reads what has come, and then the rest of its last record; the buffer takes whole records alone. Answers how many bytes there are:
+// none where the input has ended, and a part of a record at the end only where the input ends there.
+pub fn read_records<R: Read>(stdin: &mut R, buffer: &mut [u8]) -> Result<usize>
+    ensures bound { IfOk result (λ n. n ≤ length buffer.old) }
+    ensures bytes { MatchResult result (λ n. Consumes (R.remaining stdin.old) (R.remaining stdin.new) (take n buffer.new)) (λ _. Keeps (R.remaining stdin.old) (R.remaining stdin.new)) }
+{
+    let whole = buffer.len() - buffer.len() % 4;
+    let mut n = stdin.read(&mut buffer[..whole])?;
+    while n % 4 != 0 {
+        match stdin.read(&mut buffer[n..n + (4 - n % 4)]) {
+            Ok(0) | Err(_) => break,
+            Ok(more) => n += more,
+        }
+    }
+    Ok(n)
+}
+
+// What a program writes of its input, piece by piece. A piece has at most `INPUT` bytes, and its text at most `OUT`.
+pub trait Pages<const INPUT: usize, const OUT: usize> {
+    // the text of the bytes that are still to come
+    ghost text_of: { Self → List ℕ → List ℕ };
+
+    // Makes the text of a piece at the start of `out`, and answers how long it is.
+    fn put(&mut self, input: &[u8], out: &mut [u8; OUT]) -> usize
+        requires { length input.now ≤ INPUT }
+        ensures wrote { Wrote out.old 0 (text_of self.old input.now) out.new result }
+        ensures upper_bound { result ≤ OUT }
+        ensures goes_on { GoesOn (text_of self.old) (text_of self.new) input.now };
+}
+
+// Reads the records that come and writes the text of them, until the input ends or nobody takes the text. Answers whether all was read
+// and taken. Nothing says that an input ends, so the turns are counted, up to a number that no station reaches.
+pub fn write_pages<
+    const INPUT: usize,
+    const OUT: usize,
+    R: Read,
+    O: Write,
+    E: Write,
+    P: Pages<INPUT, OUT>,
+>(
+    stdin: &mut R,
+    stdout: &mut O,
+    stderr: &mut E,
+    input: &mut [u8; INPUT],
+    out: &mut [u8; OUT],
+    pages: &mut P,
+) -> bool
+    ensures { IsTrue result → Shown (P.text_of pages.old) (R.remaining stdin.old) (R.remaining stdin.new) (O.contents stdout.old) (O.contents stdout.new) }
+{
+    for _ in 0..u64::MAX {
+        let n = match read_records(stdin, input) {
+            Ok(n) => n,
+            Err(error) => {
+                fail(stderr, b"standard input", error);
+                return false;
+            }
+        };
+        let end = pages.put(&input[..n], out);
+        if !write_text(stdout, stderr, &out[..end]) {
+            return false;
+        }
+        if (n == 0) | (n % 4 != 0) {
+            return true;
+        }
+    }
+    false
+}
