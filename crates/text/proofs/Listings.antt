@@ -1,28 +1,30 @@
 -- The laws of a listing that is written line by line, and of its tail. Assumes nothing.
 use Rattle.std.specs.Prelude.{if◌then◌else◌}
-use Rattle.std.proofs.Common.{◌≡◌, ℕ, ◌+◌, ◌*◌, ◌/◌, ◌%◌, ◌<◌, ◌≤◌, Bool, true, false, List, [], ◌∷◌, ◌++◌, length, get_or, drop, refl, add_assoc, add-one, arith, length-drop, drop-cons, eq-eqb, ne_eqb}
+use Rattle.std.specs.Simd.{first_chunks}
+use Rattle.std.proofs.Common.{◌≡◌, ℕ, ◌+◌, ◌*◌, ◌/◌, ◌%◌, ◌<◌, ◌≤◌, Bool, true, false, List, [], ◌∷◌, ◌++◌, length, get_or, take, drop, refl, ◌∙◌, zero, suc, drop-drop, arith, length-drop, eq-eqb, ne_eqb}
 use Rattle.buffers.specs.Splice.{has_room, if_room, Wrote}
 use Rattle.buffers.specs.Text.{ascii}
 use Rattle.buffers.specs.Rows.{row_of}
 use Rattle.buffers.proofs.Splices.{wrote_none, wrote_all, Writing, writing_part, writing_done}
 use Rattle.text.specs.Listing.{after, listing_of, tail_of}
 
--- one element, and four, from index k on
-one : (bs : List ℕ) (k : ℕ) → k < length bs → drop k bs ≡ get_or bs k 0 ∷ drop (k + 1) bs
-one bs k h = rw add-one (drop-cons bs k 0 h)
-
-four : (bs : List ℕ) (k : ℕ) → k + 4 ≤ length bs
-    → drop k bs ≡ get_or bs k 0 ∷ get_or bs (k + 1) 0 ∷ get_or bs (k + 2) 0 ∷ get_or bs (k + 3) 0 ∷ drop (k + 4) bs
-four bs k h =
-    rw (one bs k (omega arith), one bs (k + 1) (omega arith), add_assoc, one bs (k + 2) (omega arith), add_assoc, one bs (k + 3) (omega arith), add_assoc)
-
--- the lines from record i on are its line and those of the records behind it
-lines_from : (bs : List ℕ) (number i : ℕ) → i < length bs / 4
-    → listing_of number (drop (4 * i) bs)
-    ≡ row_of (number ∷ get_or bs (4 * i) 0 ∷ get_or bs (4 * i + 1) 0 ∷ get_or bs (4 * i + 2) 0 ∷ get_or bs (4 * i + 3) 0 ∷ [])
-    ++ listing_of (after number) (drop (4 * (i + 1)) bs)
+-- the listing of four bytes and more is the line of the first four, and the lines of the others
+first_line : (number : ℕ) (bs : List ℕ) → 4 ≤ length bs
+    → listing_of number bs
+    ≡ row_of (number ∷ get_or (take 4 bs) 0 0 ∷ get_or (take 4 bs) 1 0 ∷ get_or (take 4 bs) 2 0 ∷ get_or (take 4 bs) 3 0 ∷ [])
+    ++ listing_of (after number) (drop 4 bs)
 unfolding listing_of
-lines_from bs number i h = let e : 4 * (i + 1) ≡ 4 * i + 4 = omega arith in rw (four bs (4 * i) (omega arith), e)
+first_line number [] h = absurd (omega arith)
+first_line number (a ∷ []) h = absurd (omega arith)
+first_line number (a ∷ b ∷ []) h = absurd (omega arith)
+first_line number (a ∷ b ∷ c ∷ []) h = absurd (omega arith)
+first_line number (a ∷ b ∷ c ∷ d ∷ bs) h = refl
+
+-- record i of k
+record_at : (k i : ℕ) (bs : List ℕ) → i < k → get_or (first_chunks 4 k bs) i [] ≡ take 4 (drop (4 * i) bs)
+record_at zero i bs h = absurd (omega arith)
+record_at (suc k) zero bs h = refl
+record_at (suc k) (suc i) bs h = let e : 4 + 4 * i ≡ 4 * suc i = omega arith in record_at k i (drop 4 bs) (omega arith) ∙ rw (drop-drop, e)
 
 -- fewer than four bytes have no line
 no_lines : (bs : List ℕ) (number : ℕ) → length bs < 4 → listing_of number bs ≡ []
@@ -41,18 +43,19 @@ module _ (bs old : List ℕ) (at first : ℕ) where
     pub rest : Writing old at (listing_of first bs) out next (listing_of number (drop (4 * i) bs))
 
   -- record i has its line
-  pub turn : {out m : List ℕ} {next n number i : ℕ} → at + 105 * (length bs / 4) ≤ length old → i < length bs / 4 → Before out next number i
-      → Wrote out next
-      (if_room out next 105 (row_of (number ∷ get_or bs (4 * i) 0 ∷ get_or bs (4 * i + 1) 0 ∷ get_or bs (4 * i + 2) 0 ∷ get_or bs (4 * i + 3) 0 ∷ [])))
-      m n
+  pub turn : {out m : List ℕ} {next n number i : ℕ} {records : List (List ℕ)} → at + 105 * (length bs / 4) ≤ length old
+      → records ≡ first_chunks 4 (length bs / 4) bs → i < length bs / 4 → Before out next number i
+      → (let r = get_or records i [] in Wrote out next (if_room out next 105 (row_of (number ∷ get_or r 0 0 ∷ get_or r 1 0 ∷ get_or r 2 0 ∷ get_or r 3 0 ∷ []))) m n)
       → n ≤ next + 105
       → Before m n (after number) (i + 1)
-  turn {out} {m} {next} {n} {number} {i} fits h w row short =
+  turn {out} {m} {next} {n} {number} {i} fits e h w row short =
+      let more : 4 * i + 4 ≡ 4 * (i + 1) = omega arith in
+      let line = first_line number (drop (4 * i) bs) (omega (arith, length-drop (4 * i) bs)) in
       record {
         within = omega arith;
         room = omega (arith, w.room);
         rest =
-            writing_part w.rest (lines_from bs number i h) (wrote_all 105 (omega (arith, w.room, w.rest.long)) row)
+            writing_part w.rest (rw (drop-drop, more) at line) (wrote_all 105 (omega (arith, w.room, w.rest.long)) (rw (e, record_at (length bs / 4) i bs h) at row))
             (omega (arith, w.room));
       }
 

@@ -1,7 +1,9 @@
 -- The text of the panel: the columns that the issue's panel for the service man names, in its order. To be believed: a place is a row
 -- of 20 numbers, a flag is 1 if it is on and 0 if not, and `and` is the port's field `all`.
-use Rattle.std.specs.Prelude.{ℕ, ◌+◌, ◌-◌, ◌*◌, Bool, true, ◌&&◌, List, [], ◌∷◌, ◌++◌, nat_le, if◌then◌else◌}
+use Rattle.std.specs.Prelude.{ℕ, zero, suc, Result, Ok, Err, ◌+◌, ◌-◌, ◌*◌, Bool, true, ◌&&◌, List, [], ◌∷◌, ◌++◌, nat_le, if◌then◌else◌}
 use Rattle.port.specs.declared.Port.{Port}
+use Rattle.refusals.specs.declared.Refusal.{Refusal}
+use Rattle.refusals.specs.declared.Refusal.TheVariants.{Size}
 use Rattle.buffers.specs.Text.{ascii}
 use Rattle.buffers.specs.Rows.{row_of}
 
@@ -39,3 +41,13 @@ value_of n (d ∷ ds) = value_of (10 * n + (d - 48)) ds
 
 unfoldable pub size_from : List ℕ → ℕ
 size_from text = if numeral text && nat_le (value_of 0 text) 4 then value_of 0 text else 0
+
+-- that number as a size, or the refusal of a size that no board has
+abbrev pub size_or_refusal : ℕ → Result ℕ Refusal
+size_or_refusal zero = Err Size
+size_or_refusal (suc n) = Ok (suc n)
+
+-- and back
+abbrev pub size_by : Result ℕ Refusal → ℕ
+size_by (Ok n) = n
+size_by (Err r) = 0

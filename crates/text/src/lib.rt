@@ -6,16 +6,10 @@ ghost use Rattle.std.specs.Prelude.{◌≡◌, ◌+◌, ◌*◌, ◌/◌, ◌≤
 ghost use Rattle.buffers.specs.Splice.{if_room, Wrote};
 ghost use Rattle.buffers.specs.Rows.{row_of};
 ghost use Rattle.text.specs.Listing.{listing_of, tail_of};
-ghost use Rattle.text.specs.Panel.{columns, row_of_place, refused_of, size_from};
+ghost use Rattle.text.specs.Panel.{columns, row_of_place, refused_of, size_from, size_by, size_or_refusal};
 
 use port::Port;
-
-// A byte as a number of a row.
-fn wide(x: u8) -> u64
-    ensures { result ≡ x }
-{
-    x as u64
-}
+use refusals::Refusal;
 
 // The lines of the answers, one by one, where there is room for them.
 fn lines(out: &mut [u8], at: usize, answers: &[u8], first: u64) -> usize
@@ -23,28 +17,26 @@ fn lines(out: &mut [u8], at: usize, answers: &[u8], first: u64) -> usize
     ensures wrote { Wrote out.old at (listing_of first answers.now) out.new result }
     ensures upper_bound { result ≤ at + 105 * (length answers.now / 4) }
 {
-    let count = answers.len() / 4;
+    let (records, _) = answers.as_chunks::<4>();
     let mut next = at;
     let mut number = first;
-    let mut i: usize = 0;
-    while i < count {
-        let from = 4 * i;
+    for [code, place, value, request] in records {
         let line = [
             number,
-            wide(answers[from]),
-            wide(answers[from + 1]),
-            wide(answers[from + 2]),
-            wide(answers[from + 3]),
+            u64::from(*code),
+            u64::from(*place),
+            u64::from(*value),
+            u64::from(*request),
         ];
         next = buffers::put_row(out, next, &line);
-        number = std::num::wrapping_add_u64(number, 1);
-        i += 1;
+        number = number.wrapping_add(1);
     }
     next
 }
 
 // The listing's line for each whole record of `answers`, from line `first` on, at index `at`. It asks for 105 bytes for each line, as
 // `put_row` does for five numbers. Answers the index behind the lines; without that room it is `at`.
+#[tactic(auto, using(buffers::proofs::Splices::room, buffers::proofs::Splices::no_room, buffers::proofs::Splices::splice_none))]
 pub fn put_answers(out: &mut [u8], at: usize, answers: &[u8], first: u64) -> usize
     ensures wrote { Wrote out.old at (if_room out.old at (105 * (length answers.now / 4)) (listing_of first answers.now)) out.new result }
     ensures upper_bound { result ≤ at + 105 * (length answers.now / 4) }
@@ -59,6 +51,7 @@ pub fn put_answers(out: &mut [u8], at: usize, answers: &[u8], first: u64) -> usi
 }
 
 // A word and a number on a line. The word ends in its space.
+#[tactic(auto, using(buffers::proofs::Splices::room, buffers::proofs::Splices::no_room, buffers::proofs::Splices::splice_none))]
 fn put_count(out: &mut [u8], at: usize, word: &[u8], n: u64) -> usize
     ensures wrote { Wrote out.old at (if_room out.old at (length word.now + 21) (word.now ++ row_of (n ∷ []))) out.new result }
     ensures upper_bound { result ≤ at + (length word.now + 21) }
@@ -145,28 +138,27 @@ pub fn put_refused(out: &mut [u8], at: usize, code: u8) -> usize
     ensures wrote { Wrote out.old at (if_room out.old at 29 (refused_of code)) out.new result }
     ensures upper_bound { result ≤ at + 29 }
 {
-    put_count(out, at, b"refused ", wide(code))
+    put_count(out, at, b"refused ", u64::from(code))
 }
 
-// The size that an argument asks for; 0 where it is no size.
-pub fn size_in(text: &[u8]) -> usize
-    ensures { result ≡ size_from text.now }
+// The size that an argument asks for; refused where it is no size.
+#[tactic(auto, unfolding(crate::specs::Panel::size_from))]
+pub fn size_in(text: &[u8]) -> Result<usize, Refusal>
+    ensures sized { size_by result ≡ size_from text.now }
+    ensures value { result ≡ size_or_refusal (size_from text.now) }
 {
     let mut n: usize = 0;
-    let mut i: usize = 0;
-    while i < text.len() {
-        let d = text[i];
-        if d < b'0' {
-            return 0;
+    for d in text {
+        if !d.is_ascii_digit() {
+            return Err(Refusal::Size);
         }
-        if d > b'9' {
-            return 0;
-        }
-        n = 10 * n + (d - b'0') as usize;
+        n = 10 * n + usize::from(*d - b'0');
         if n > 4 {
-            return 0;
+            return Err(Refusal::Size);
         }
-        i += 1;
     }
-    n
+    if n == 0 {
+        return Err(Refusal::Size);
+    }
+    Ok(n)
 }
