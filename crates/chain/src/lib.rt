@@ -23,7 +23,7 @@ pub struct Decoder {
 
 impl Decoder {
     // After one more fetched byte.
-    #[tactic(auto, using(bits::proofs::Tests::tests), unfolding(crate::specs::Decode::next_of))]
+#[tactic(auto, unfolding(crate::specs::Decode::next_of))]
     pub fn next(self, byte: u8) -> Decoder
         ensures { result ≡ next_of self byte }
     {
@@ -43,7 +43,6 @@ impl Decoder {
 }
 
 // One of two numbers.
-#[tactic(auto, using(bits::proofs::Tests::tests))]
 fn choose(first: bool, x: u8, y: u8) -> u8
     ensures { result ≡ (if «first» then x else y) }
 {
@@ -51,6 +50,7 @@ fn choose(first: bool, x: u8, y: u8) -> u8
 }
 
 // What the chain needs to know of a chip. No branch hangs on the ports' flags: nobody can foretell them.
+
 #[tactic(auto, using(crate::proofs::Marks::chosen))]
 fn mark(c: Chip) -> u8
     ensures { result ≡ mark_of c }
@@ -75,7 +75,6 @@ pub fn unmarked() -> Marks
 }
 
 // The marks where the chip `k` is now `c`.
-#[tactic(auto, using(crate::proofs::Marks::sets_mark, crate::proofs::Places::set_beyond))]
 pub fn marked(marks: Marks, k: usize, c: Chip) -> Marks
     ensures { result ≡ marked_of marks k c }
 {
@@ -88,7 +87,8 @@ pub fn marked(marks: Marks, k: usize, c: Chip) -> Marks
 }
 
 // The place of the nearest asking port and 1, or 0 if none asks.
-#[tactic(auto, using(crate::proofs::Scans::begins, crate::proofs::Scans::caller_past, crate::proofs::Scans::caller_here, crate::proofs::Scans::caller_shut, crate::proofs::Scans::caller_ends))]
+
+#[tactic(auto, using(crate::proofs::Scans::caller_past, crate::proofs::Scans::caller_here, crate::proofs::Scans::caller_shut, crate::proofs::Scans::caller_ends))]
 pub fn caller(marks: Marks) -> u8
     ensures { result ≡ caller_of marks }
 {
@@ -105,6 +105,7 @@ pub fn caller(marks: Marks) -> u8
 }
 
 // Who asks where the chip `k` is now `c`; `request` is who asked before. It is searched for only if the chip's mark changes.
+
 #[tactic(auto, using(crate::proofs::Marks::asks_still, crate::proofs::Marks::asks_same, crate::proofs::Marks::asks_anew))]
 pub fn renewed(marks: Marks, k: usize, c: Chip, request: u8) -> u8
     ensures { result ≡ renewed_of marks k c request }
@@ -122,7 +123,8 @@ pub fn renewed(marks: Marks, k: usize, c: Chip, request: u8) -> u8
 }
 
 // The place of the nearest port under service, if one is.
-#[tactic(auto, using(crate::proofs::Scans::begins, crate::proofs::Scans::holder_past, crate::proofs::Scans::holder_here, crate::proofs::Scans::holder_ends))]
+
+#[tactic(auto, using(crate::proofs::Scans::holder_past, crate::proofs::Scans::holder_here, crate::proofs::Scans::holder_ends))]
 pub fn holder(marks: Marks) -> Option<usize>
     ensures { held_by result ≡ holder_of marks }
 {

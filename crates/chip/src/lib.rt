@@ -16,7 +16,6 @@ pub struct Chip {
 }
 
 // One port of the chip.
-#[tactic(auto, using(crate::proofs::Ways::port_b, crate::proofs::Ways::port_a))]
 pub fn port_of(c: Chip, on_b: bool) -> Port
     ensures { result ≡ port (side on_b) c }
 {
@@ -27,7 +26,6 @@ pub fn port_of(c: Chip, on_b: bool) -> Port
 }
 
 // Whether a port's input register follows its lines.
-#[tactic(auto, using(crate::proofs::Ways::follows_b, crate::proofs::Ways::follows_a))]
 pub fn follows(c: Chip, on_b: bool) -> bool
     ensures { result ≡ follows (side on_b) c }
 {
@@ -41,7 +39,7 @@ pub fn follows(c: Chip, on_b: bool) -> bool
 }
 
 // What a sound board asks of one chip.
-#[tactic(auto, using(crate::proofs::Ways::both_sound))]
+#[tactic(auto, unfolding(crate::specs::Sound::sound_chip))]
 pub fn sound(c: Chip) -> bool
     ensures { result ≡ sound_chip c }
 {
@@ -52,7 +50,6 @@ pub fn sound(c: Chip) -> bool
 }
 
 // After an accepted event, at both ports: registers that follow take their lines, matches that became true make a port wait.
-#[tactic(auto, using(crate::proofs::Ways::both_settled))]
 pub fn settle_chip(c: Chip) -> Chip
     ensures { result ≡ settle c }
 {
@@ -66,7 +63,6 @@ pub fn settle_chip(c: Chip) -> Chip
 }
 
 // An opcode fetch, at both ports.
-#[tactic(auto, using(crate::proofs::Ways::both_woken))]
 pub fn fetch_chip(c: Chip) -> Chip
     ensures { result ≡ fetch c }
 {
@@ -77,7 +73,6 @@ pub fn fetch_chip(c: Chip) -> Chip
 }
 
 // The chip where one port is what `f` makes of it.
-#[tactic(auto, using(crate::proofs::Ways::on_b, crate::proofs::Ways::on_a))]
 pub fn on<F: FnOnce(Port) -> Port>(c: Chip, on_b: bool, f: F) -> Chip
     requires { F.IsAlwaysCallable f }
     ensures { (q : _) × F.post f (port (side on_b) c) q × (result ≡ put (side on_b) q c) }
@@ -89,7 +84,6 @@ pub fn on<F: FnOnce(Port) -> Port>(c: Chip, on_b: bool, f: F) -> Chip
 }
 
 // One port answers an acknowledge.
-#[tactic(auto, using(crate::proofs::Ways::put_on))]
 pub fn serve_port(c: Chip, on_b: bool) -> Chip
     ensures { result ≡ serve (side on_b) c }
 {
@@ -97,7 +91,6 @@ pub fn serve_port(c: Chip, on_b: bool) -> Chip
 }
 
 // RETI releases one port.
-#[tactic(auto, using(crate::proofs::Ways::put_on))]
 pub fn release_port(c: Chip, on_b: bool) -> Chip
     ensures { result ≡ release (side on_b) c }
 {
@@ -105,7 +98,6 @@ pub fn release_port(c: Chip, on_b: bool) -> Chip
 }
 
 // A reset, and the settling after it.
-#[tactic(auto, using(crate::proofs::Ways::both_cleared))]
 pub fn reset_chip(c: Chip) -> Chip
     ensures { result ≡ settle (reset c) }
 {
@@ -117,7 +109,6 @@ pub fn reset_chip(c: Chip) -> Chip
 }
 
 // A chip of a fresh board.
-#[tactic(auto, using(crate::proofs::Ways::both_fresh))]
 pub fn fresh_chip() -> Chip
     ensures { result ≡ chip_fresh }
 {

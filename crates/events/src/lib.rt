@@ -52,7 +52,6 @@ pub struct Acted {
 }
 
 // One port obeys a control word. A entering or leaving mode 2 also lowers B's Ready.
-#[tactic(auto, using(crate::proofs::Ways::obey_b, crate::proofs::Ways::obey_a))]
 pub fn obey_word(c: Chip, on_b: bool, w: Word) -> Chip
     ensures { result ≡ obey (side on_b) w c }
 {
@@ -76,7 +75,6 @@ pub fn obey_word(c: Chip, on_b: bool, w: Word) -> Chip
 }
 
 // The CPU writes data to a port.
-#[tactic(auto, using(crate::proofs::Ways::written_at))]
 pub fn write_data(c: Chip, on_b: bool, value: u8) -> Chip
     ensures { result ≡ changed (side on_b) (Write value) c }
 {
@@ -85,7 +83,6 @@ pub fn write_data(c: Chip, on_b: bool, value: u8) -> Chip
 }
 
 // The CPU has read a port. A read of A in mode 2 raises B's Ready.
-#[tactic(auto, using(crate::proofs::Ways::read_b, crate::proofs::Ways::read_a))]
 pub fn read_data(c: Chip, on_b: bool) -> Chip
     ensures { result ≡ changed (side on_b) Read c }
 {
@@ -108,7 +105,6 @@ pub fn read_data(c: Chip, on_b: bool) -> Chip
 }
 
 // A port's Strobe goes to `level`.
-#[tactic(auto, using(crate::proofs::Ways::strobed_at))]
 fn strobe_line(c: Chip, on_b: bool, level: bool) -> Chip
     ensures { result ≡ changed (side on_b) (Strobe level) c }
 {
@@ -117,7 +113,6 @@ fn strobe_line(c: Chip, on_b: bool, level: bool) -> Chip
 }
 
 // The outside levels of a port's lines.
-#[tactic(auto, using(crate::proofs::Ways::lined_at))]
 fn outside_lines(c: Chip, on_b: bool, value: u8) -> Chip
     ensures { result ≡ changed (side on_b) (Outside value) c }
 {
@@ -125,6 +120,7 @@ fn outside_lines(c: Chip, on_b: bool, value: u8) -> Chip
 }
 
 // One event at one port of the chip, and the settling after it. A refused word leaves at once.
+
 #[tactic(auto, using(crate::proofs::Ways::act_control, crate::proofs::Ways::act_refused), unfolding(crate::specs::Act::outcome_of))]
 pub fn act(c: Chip, on_b: bool, event: Event) -> Result<Acted, Refusal>
     ensures { result ≡ outcome_of (side on_b) event c }

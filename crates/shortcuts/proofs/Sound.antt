@@ -1,8 +1,8 @@
 -- One event at a sound chip, with no more settling than it can need, is the chip's step.
 -- Assumes nothing.
-use Rattle.std.specs.Prelude.{Some, None, Result, Ok, Err, if◌then◌else◌}
+use Rattle.std.specs.Prelude.{Some, None, Result, Ok, if◌then◌else◌}
 use mathlib.Core.Path.{◌≡◌, refl, sym, ap, ap₂, ◌∙◌}
-use mathlib.Core.Bool.{Bool, true, false, ◌&&◌, ◌||◌, not, beq, false≢true, true≢false}
+use mathlib.Core.Bool.{Bool, true, false, ◌&&◌, ◌||◌, not, beq}
 use Prim.Native.Nat.{ℕ}
 use Rattle.bits.specs.Bits.{◌is◌}
 use Rattle.bits.proofs.Logic.{both, beq_is}
@@ -19,13 +19,15 @@ use Rattle.chip.specs.declared.Chip.{Chip}
 use Rattle.chip.specs.Chip.{Side, A, B, side, port, put, two_way, off, follows, settle}
 use Rattle.chip.specs.Sound.{sound_chip}
 use Rattle.chip.proofs.Keep.{apart, rest_same}
-use Rattle.chip.proofs.Ways.{made}
 use Rattle.events.proofs.Ways as ways
 use Rattle.events.specs.declared.Acted.{Acted}
 use Rattle.events.specs.declared.Event.TheVariants.{Control, Write, Read, Strobe, Outside}
 use Rattle.events.specs.Events.{acts, obey, changed}
 use Rattle.events.specs.Act.{step, done, outcome_of}
-use Rattle.shortcuts.specs.Follow.{following, followed}
+use Rattle.shortcuts.specs.Follow.{followed}
+
+abbrev made : Port → Port → Chip
+made a b = record { a = a; b = b }
 
 -- ---- a port whose match memory is right: settling only lets the input register follow
 matched_now : (f w : Bool) (p : Port) → rests_of f w p ≡ true → p.matched ≡ (match_now p && w)
@@ -44,17 +46,6 @@ settled_input f w p m =
     sym
     (put_back p (if f then p.lines else p.input) (p.waiting || (match_now p && w && not p.matched)) (match_now p && w)
     (rw (← m) (no_edge p.waiting p.matched)) (sym m))
-
-pub follow_none : (f : Bool) (p : Port) → not f ≡ true → p ≡ following f p
-follow_none true p e = absurd (false≢true e)
-follow_none false p e = refl
-
-pub follow_taken : (f : Bool) (p : Port) → not f ≡ false → input_at p.lines p ≡ following f p
-follow_taken true p e = refl
-follow_taken false p e = absurd (true≢false e)
-
-pub both_follow : (c : Chip) (f g : Bool) (x y : Port) → f ≡ follows A c → g ≡ follows B c → x ≡ following f c.a → y ≡ following g c.b → made x y ≡ followed c
-both_follow c f g x y i j k l = rw (k, l, i, j)
 
 -- ---- data: nothing is left to settle
 write_rests : (s : Side) (v : ℕ) (c : Chip) → sound_chip c ≡ true → changed s (Write v) c ≡ settle (changed s (Write v) c)

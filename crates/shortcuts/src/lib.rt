@@ -1,5 +1,5 @@
 // One event of kinds 3 to 7 at a chip that is sound, with no more settling than it can need: a run keeps its board sound, so each
-// kind settles only what it can have unsettled. What comes out is the chip's own event, `act_of`.
+// kind settles only what it can have unsettled. What comes out is the chip's own event, `outcome_of`.
 #![tactic(auto)]
 
 ghost use Rattle.std.specs.Prelude.{◌≡◌, true, false, if◌then◌else◌};
@@ -15,21 +15,16 @@ use port::Port;
 use refusals::Refusal;
 
 // The port's input register takes its lines, if it follows them.
-#[tactic(auto, using(crate::proofs::Sound::follow_none, crate::proofs::Sound::follow_taken))]
 fn follow_lines(p: Port, follows: bool) -> Port
     ensures { result ≡ following follows p }
 {
-    if !follows {
-        return p;
-    }
     Port {
-        input: p.lines,
+        input: if follows { p.lines } else { p.input },
         ..p
     }
 }
 
 // Both registers take their lines, where they follow them.
-#[tactic(auto, using(crate::proofs::Sound::both_follow))]
 fn follow(c: Chip) -> Chip
     ensures { result ≡ followed c }
 {
@@ -40,7 +35,6 @@ fn follow(c: Chip) -> Chip
 }
 
 // The level of a strobe that an event may move.
-#[tactic(auto, using(bits::proofs::Tests::take, bits::proofs::Tests::skip))]
 fn level_at(moved: bool, level: bool, old: bool) -> bool
     ensures { result ≡ (if moved then level else old) }
 {
@@ -96,7 +90,7 @@ pub fn read(c: Chip, on_b: bool) -> Acted
 }
 
 // A control byte to A may couple B anew, so both settle. One to B leaves A as it was. A refused word leaves at once.
-#[tactic(auto, using(events::proofs::Ways::act_refused, events::proofs::Ways::act_control, crate::proofs::Sound::word_b), unfolding(events::specs::Act::outcome_of))]
+#[tactic(auto, using(events::proofs::Ways::act_refused, events::proofs::Ways::act_control), unfolding(events::specs::Act::outcome_of))]
 pub fn control(c: Chip, on_b: bool, value: u8) -> Result<Chip, Refusal>
     ensures { sound_chip c ≡ true → quiet result ≡ outcome_of (side on_b) (Control value) c }
 {
