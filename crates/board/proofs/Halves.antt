@@ -1,5 +1,6 @@
 -- The two halves of the code are the step: on a sound board, what the first half reads and the second half changes is `step_of`.
 -- Assumes nothing.
+use Rattle.std.specs.Prelude.{Option, Some, None, Result, Ok, Err, if◌then◌else◌}
 use mathlib.Core.Path.{◌≡◌, refl, sym, ap, ap₂, ◌∙◌}
 use mathlib.Core.Bool.{Bool, true, false, false≢true}
 use mathlib.Core.List.{List, [], ◌∷◌, ◌++◌, map}
@@ -8,34 +9,45 @@ use native.Mathlib.Omega.{arith}
 use lib.Dec.{ltb, leb}
 use lib.ListN.{length, length-take, get_or, set, drop, take-append-drop}
 use lib.Seq.{set-get_or, get_or-take}
-use borrow.Author.Tests.{ne_eqb, eqb-true, ltb-true, leb-true}
+use borrow.Author.Tests.{eq-eqb, ne_eqb, eqb-true, ltb-true, leb-true}
 use Rattle.bits.specs.Bits.{◌is◌}
 use Rattle.bits.proofs.Logic.{by_cases, both}
 use Rattle.bits.proofs.Tests.{if_on, if_off}
 use Rattle.port.specs.Rules.{served, released}
-use Rattle.words.specs.Words.{code_of}
-use Rattle.words.specs.declared.Heard.{Heard}
+use Rattle.refusals.specs.declared.Refusal.{Refusal}
+use Rattle.refusals.specs.declared.Refusal.TheVariants.{NoForm, NotOnB}
+use Rattle.refusals.specs.Numbers.{number_of, code_of}
+use Rattle.words.specs.declared.Word.{Word}
 use Rattle.chip.specs.declared.Chip.{Chip}
-use Rattle.chip.specs.Chip.{side, port, on}
+use Rattle.chip.specs.Chip.{is_b, port, on}
 use Rattle.chip.specs.Chip as chip
-use Rattle.events.specs.Events.{heard, Event, control, write, read, strobe, outside}
+use Rattle.events.specs.declared.Event.{Event}
+use Rattle.events.specs.declared.Event.TheVariants.{Control, Write, Read, Strobe, Outside}
+use Rattle.events.specs.Events.{heard}
 use Rattle.events.specs.Act.{event_of, step_word, step, code_at, value_at, act_of}
+use Rattle.events.proofs.Outcomes.{acting_is}
 use Rattle.chain.specs.declared.Decoder.{Decoder}
 use Rattle.chain.specs.Places.{adjust}
 use Rattle.chain.specs.Chain.{most, asker, asks, holder, side_of, acknowledged, retired}
-use Rattle.chain.specs.Decode.{shut, reti_of}
-use Rattle.chain.specs.Marks.{Marks, marked_of, marks_of, caller_of}
+use Rattle.chain.specs.Decode.{reti_of}
+use Rattle.chain.specs.Marks.{Marks, marked_of, marks_of, caller_of, holder_of}
 use Rattle.chain.proofs.Places.{adjust_length}
 use Rattle.chain.proofs.Flat.{flat_length}
-use Rattle.chain.proofs.Marks.{caller_is, holder_is, marks_set}
+use Rattle.chain.proofs.Marks.{caller_is, holder_is, marks_set, renewed_is}
 use Rattle.board.specs.declared.Board.{Board}
 use Rattle.board.specs.declared.Answer.{Answer}
-use Rattle.board.specs.declared.Stepped.{Stepped}
+use Rattle.board.specs.declared.Doing.{Doing}
+use Rattle.board.specs.declared.Doing.TheVariants.{Reset, Fetch, Acknowledge, At}
+use Rattle.board.specs.declared.Look.{Look}
+use Rattle.board.specs.declared.Touch.TheVariants.{Release, Serve, Act}
+use Rattle.board.specs.declared.Sweep.TheVariants.{Clear, Wake}
 use Rattle.board.specs.declared.Plan.{Plan}
+use Rattle.board.specs.declared.Plan.TheVariants.{Nothing, One, Each}
+use Rattle.board.specs.declared.Touched.{Touched}
 use Rattle.board.specs.Board.{there, ports, port_at, within, sound_board, request_of}
-use Rattle.board.specs.Step.{kind_of, place_of, value_of, last_of, line, verdict, word_code, refusal, Doing, reset, fetch, acknowledge, at, doing_of, taken, answer, answered, accepted, refused, step_of}
-use Rattle.board.specs.Halves.{early_at, idle, single, fetch_at, fetch_plan, acknowledge_plan, reset_plan, accepted_plan, plan_of, touched_of, changed_of, blank, swept_of, carried}
-use Rattle.board.proofs.Tables.{word_lines, refusal_is, place_there, by_heard, plain, event_plain, event_control}
+use Rattle.board.specs.Step.{kind_of, place_of, value_of, last_of, line, verdict, word_code, refusal, doing_of, decoder_after, taken, answer, answered, Stepped, accepted, refused, step_of}
+use Rattle.board.specs.Halves.{noted_of, early_at, read_of, named_by, freed_of, release_plan, fetch_plan, acknowledge_plan, plan_of, blank, index_of, touched, touched_by, acted_of, touched_of, changed_of, carried, listened, advanced_of, stepped}
+use Rattle.board.proofs.Tables.{word_lines, refusal_is, place_there, read_is, by_read, by_heard, plain, event_plain, event_control}
 use Rattle.board.proofs.Ports.{port_at_lem, none_released, none_answers, Still, fetch_free}
 use Rattle.board.proofs.There.{take_within, drop_within, within_set}
 use Rattle.board.proofs.Quick.{parts, quick, cleaned, after_quick}
@@ -51,6 +63,10 @@ result b g v = record { board = taken b g; answer = answered b g v (request_of (
 
 abbrev held : Board → List Chip → Decoder → Answer → Stepped
 held b cs d a = record { board = record { size = b.size; chips = cs; decoder = d }; answer = a }
+
+-- what is known of a board's chips
+abbrev pub looked : Board → Bool → Look
+looked b due = record { marks = marks_of b.size b.chips; due = due; request = caller_of (marks_of b.size b.chips) }
 
 step_accepts : (b : Board) (e : List ℕ) → (length e is 4) ≡ true → refusal b e ≡ 0 → step_of b e ≡ result b (doing_of e) (value_of e)
 unfolding step_of accepted
@@ -100,34 +116,45 @@ module _ (b : Board) (s : sound_board b ≡ true) (len : length b.chips ≡ most
   stays : (x : List Chip) → x ≡ there b → b.chips ≡ x ++ drop b.size b.chips
   stays x e = sym (ap (λ (l : List Chip). l ++ drop b.size b.chips) e ∙ take-append-drop b.size b.chips)
 
+  -- the chip of one place changed
+  one : (g : Doing) (due : Bool) (place : ℕ) (x : Touched) → stepped (changed_of (listened b g) (looked b due) place x)
+      ≡ held b (set b.chips (index_of place) x.chip) (decoder_after b.decoder g) (answer x.code x.place x.value (caller_of (marked_of (marks_of b.size b.chips) (index_of place) x.chip)))
+  unfolding changed_of noted_of
+  one g due place x =
+      ap (λ (r : ℕ). held b (set b.chips (index_of place) x.chip) (decoder_after b.decoder g) (answer x.code x.place x.value r))
+      (renewed_is (marks_of b.size b.chips) (index_of place) x.chip (caller_of (marks_of b.size b.chips)) refl)
+
   -- ---- a reset
-  does_reset : (v r : ℕ) → carried b (reset_plan (marks_of b.size b.chips) v r) ≡ result b reset v
-  unfolding carried swept_of taken
-  does_reset v r = settles reset v (within b.size (map cleaned) b.chips) (answer 0 0 v) (λ q. refl) refl
+  does_reset : (due : Bool) (v : ℕ) → stepped (carried (listened b Reset) (looked b due) (Each None Clear) v) ≡ result b Reset v
+  unfolding carried taken
+  does_reset due v = settles Reset v (within b.size (map cleaned) b.chips) (answer 0 0 v) (λ q. refl) refl
 
   -- ---- a fetch that releases nobody
-  fetch_still : (v : ℕ) → reti_of b.decoder v ≡ false → quick b.decoder (fetch v) (there b) ≡ map chip.fetch (there b)
+  abbrev fetch_at : Bool → ℕ → Option ℕ → Plan
+  fetch_at due v freed = if due then Each freed Wake else release_plan v (caller_of (marks_of b.size b.chips)) freed
+
+  fetch_still : (v : ℕ) → reti_of b.decoder v ≡ false → quick b.decoder (Fetch v) (there b) ≡ map chip.fetch (there b)
   fetch_still v e = rw e
 
-  fetch_nobody : (v : ℕ) → ltb (holder (ports b)) (length (ports b)) ≡ false → quick b.decoder (fetch v) (there b) ≡ map chip.fetch (there b)
+  fetch_nobody : (v : ℕ) → ltb (holder (ports b)) (length (ports b)) ≡ false → quick b.decoder (Fetch v) (there b) ≡ map chip.fetch (there b)
   fetch_nobody v e = by_cases (reti_of b.decoder v) (λ t. rw t (ap (map chip.fetch) (none_released (there b) e))) (λ t. rw t)
 
-  does_fetch : (due : Bool) (v : ℕ) → (due ≡ false → Still (there b)) → quick b.decoder (fetch v) (there b) ≡ map chip.fetch (there b)
-      → carried b (fetch_at b.decoder (marks_of b.size b.chips) due false 0 v (caller_of (marks_of b.size b.chips))) ≡ result b (fetch v) v
-  unfolding carried swept_of taken
-  does_fetch true v right e = settles (fetch v) v (within b.size (map chip.fetch) b.chips) (answer 0 0 v) (λ q. refl) (ap (λ (l : List Chip). l ++ drop b.size b.chips) (sym e))
-  does_fetch false v right e = settles (fetch v) v b.chips (answer 0 0 v) (λ q. refl) (stays (quick b.decoder (fetch v) (there b)) (e ∙ right refl))
+  does_fetch : (due : Bool) (v : ℕ) → (due ≡ false → Still (there b)) → quick b.decoder (Fetch v) (there b) ≡ map chip.fetch (there b)
+      → stepped (carried (listened b (Fetch v)) (looked b due) (fetch_at due v None) v) ≡ result b (Fetch v) v
+  unfolding carried taken
+  does_fetch true v right e = settles (Fetch v) v (within b.size (map chip.fetch) b.chips) (answer 0 0 v) (λ q. refl) (ap (λ (l : List Chip). l ++ drop b.size b.chips) (sym e))
+  does_fetch false v right e = settles (Fetch v) v b.chips (answer 0 0 v) (λ q. refl) (stays (quick b.decoder (Fetch v) (there b)) (e ∙ right refl))
 
   -- ---- a fetch that ends a RETI: the port at the place k is released
   releasing : (k : ℕ) → k ≡ holder (ports b) → retired (there b) ≡ adjust (on (side_of k) released) (k / 2) (there b)
   unfolding retired
   releasing k e = rw e
 
-  fetch_frees : (v k : ℕ) → reti_of b.decoder v ≡ true → k ≡ holder (ports b) → quick b.decoder (fetch v) (there b) ≡ map chip.fetch (adjust (on (side_of k) released) (k / 2) (there b))
+  fetch_frees : (v k : ℕ) → reti_of b.decoder v ≡ true → k ≡ holder (ports b) → quick b.decoder (Fetch v) (there b) ≡ map chip.fetch (adjust (on (side_of k) released) (k / 2) (there b))
   fetch_frees v k t e = rw t (ap (map chip.fetch) (releasing k e))
 
-  freed_chips : (k : ℕ) → k < b.size * 2 → set b.chips (k / 2) (on (side_of k) released (get_or b.chips (k / 2) blank)) ≡ adjust (on (side_of k) released) (k / 2) (there b) ++ drop b.size b.chips
-  freed_chips k h = within_set (on (side_of k) released) blank b.size (k / 2) b.chips (omega arith)
+  freed_row : (k : ℕ) → k < b.size * 2 → set b.chips (k / 2) (on (side_of k) released (get_or b.chips (k / 2) blank)) ≡ adjust (on (side_of k) released) (k / 2) (there b) ++ drop b.size b.chips
+  freed_row k h = within_set (on (side_of k) released) blank b.size (k / 2) b.chips (omega arith)
 
   swept_freed : (k : ℕ) → k < b.size * 2
       → within b.size (map chip.fetch) (set b.chips (k / 2) (on (side_of k) released (get_or b.chips (k / 2) blank)))
@@ -135,184 +162,201 @@ module _ (b : Board) (s : sound_board b ≡ true) (len : length b.chips ≡ most
   swept_freed k h =
       let x = adjust (on (side_of k) released) (k / 2) (there b) in
       let l : length x ≡ length (there b) = adjust_length (on (side_of k) released) (k / 2) (there b) in
-      ap (within b.size (map chip.fetch)) (freed_chips k h)
+      ap (within b.size (map chip.fetch)) (freed_row k h)
       ∙ ap₂ (λ (y z : List Chip). map chip.fetch y ++ z) (take_within b.size x b.chips l) (drop_within b.size x b.chips l)
 
   does_free : (due : Bool) (v k : ℕ) → (due ≡ false → Still (there b)) → reti_of b.decoder v ≡ true → k ≡ holder (ports b) → k < b.size * 2
-      → carried b (fetch_at b.decoder (marks_of b.size b.chips) due true k v (caller_of (marks_of b.size b.chips))) ≡ result b (fetch v) v
-  unfolding carried swept_of changed_of touched_of taken
+      → stepped (carried (listened b (Fetch v)) (looked b due) (fetch_at due v (Some k)) v) ≡ result b (Fetch v) v
+  unfolding carried touched_of taken
   does_free true v k right t e h =
       rw (index k h)
-      (settles (fetch v) v (within b.size (map chip.fetch) (set b.chips (k / 2) (on (side_of k) released (get_or b.chips (k / 2) blank)))) (answer 0 0 v) (λ q. refl)
+      (settles (Fetch v) v (within b.size (map chip.fetch) (set b.chips (k / 2) (on (side_of k) released (get_or b.chips (k / 2) blank)))) (answer 0 0 v) (λ q. refl)
       (swept_freed k h ∙ ap (λ (l : List Chip). l ++ drop b.size b.chips) (sym (fetch_frees v k t e))))
   does_free false v k right t e h =
-      rw (index k h)
-      (settles_one (fetch v) v (k / 2) (on (side_of k) released (get_or b.chips (k / 2) blank)) (answer 0 0 v) (omega arith) (λ q. refl)
-      (freed_chips k h ∙ ap (λ (l : List Chip). l ++ drop b.size b.chips)
+      one (Fetch v) false k (touched (on (side_of k) released (get_or b.chips (index_of k) blank)) 0 0 v)
+      ∙ rw (index k h)
+      (settles_one (Fetch v) v (k / 2) (on (side_of k) released (get_or b.chips (k / 2) blank)) (answer 0 0 v) (omega arith) (λ q. refl)
+      (freed_row k h ∙ ap (λ (l : List Chip). l ++ drop b.size b.chips)
       (sym (fetch_frees v k t e ∙ fetch_free (side_of k) (k / 2) (there b) ∙ ap (adjust (on (side_of k) released) (k / 2)) (right refl)))))
 
   -- ---- an acknowledge
-  does_nobody : (v : ℕ) → asks (ports b) ≡ false → carried b (idle shut (marks_of b.size b.chips) 3 0 255 (caller_of (marks_of b.size b.chips))) ≡ result b acknowledge v
+  does_nobody : (due : Bool) (v : ℕ) → asks (ports b) ≡ false
+      → stepped (carried (listened b Acknowledge) (looked b due) (Nothing (answer 3 0 255 (caller_of (marks_of b.size b.chips)))) v) ≡ result b Acknowledge v
   unfolding carried taken
-  does_nobody v e = settles acknowledge v b.chips (answer 3 0 255) (λ q. rw e) (stays (acknowledged (there b)) (none_answers (there b) e))
+  does_nobody due v e = settles Acknowledge v b.chips (answer 3 0 255) (λ q. rw e) (stays (acknowledged (there b)) (none_answers (there b) e))
 
   serving : (k : ℕ) → k ≡ asker (ports b) → acknowledged (there b) ≡ adjust (on (side_of k) served) (k / 2) (there b)
   unfolding acknowledged
   serving k e = rw e
 
-  does_answer : (v k : ℕ) → asks (ports b) ≡ true → k ≡ asker (ports b) → k < b.size * 2
-      → carried b (single shut (marks_of b.size b.chips) 2 2 k 0 (caller_of (marks_of b.size b.chips))) ≡ result b acknowledge v
-  unfolding carried changed_of touched_of taken
-  does_answer v k t e h =
-      rw (index k h)
-      (settles_one acknowledge v (k / 2) (on (side_of k) served (get_or b.chips (k / 2) blank)) (answer 2 k (port (side_of k) (get_or b.chips (k / 2) blank)).vector) (omega arith)
+  does_answer : (due : Bool) (v k : ℕ) → asks (ports b) ≡ true → k ≡ asker (ports b) → k < b.size * 2
+      → stepped (carried (listened b Acknowledge) (looked b due) (One k Serve) v) ≡ result b Acknowledge v
+  unfolding carried touched_of taken
+  does_answer due v k t e h =
+      let c = get_or b.chips (index_of k) blank in
+      one Acknowledge due k (touched (on (side_of k) served c) 2 k (port (side_of k) c).vector)
+      ∙ rw (index k h)
+      (settles_one Acknowledge v (k / 2) (on (side_of k) served (get_or b.chips (k / 2) blank)) (answer 2 k (port (side_of k) (get_or b.chips (k / 2) blank)).vector) (omega arith)
       (λ q. rw (t, ← e, port_there k h))
       (within_set (on (side_of k) served) blank b.size (k / 2) b.chips (omega arith) ∙ ap (λ (l : List Chip). l ++ drop b.size b.chips) (sym (serving k e))))
 
   -- ---- an event at a place
-  abbrev chip_at : ℕ → Chip
-  chip_at place = get_or b.chips (place / 2) blank
+  abbrev chip_of : ℕ → Chip
+  chip_of place = get_or b.chips (place / 2) blank
 
   answer_plain : (place v : ℕ) (e : Event) → place < b.size * 2 → plain e ≡ true → (q : ℕ)
-      → answer (code_at (side_of place) e (chip_at place)) place (value_at (side_of place) e v (chip_at place)) q ≡ answered b (at place e) v q
-  answer_plain place v (control w) h p q = absurd (false≢true p)
-  answer_plain place v (write w) h p q = refl
-  answer_plain place v read h p q = rw (port_there place h)
-  answer_plain place v (strobe level) h p q = refl
-  answer_plain place v (outside w) h p q = refl
+      → answer (code_at (side_of place) e (chip_of place)) place (value_at (side_of place) e v (chip_of place)) q ≡ answered b (At place e) v q
+  answer_plain place v (Control w) h p q = absurd (false≢true p)
+  answer_plain place v (Write w) h p q = refl
+  answer_plain place v Read h p q = rw (port_there place h)
+  answer_plain place v (Strobe level) h p q = refl
+  answer_plain place v (Outside w) h p q = refl
 
-  does_at : (kind place v : ℕ) (e : Event) → (kind is 1) ≡ false → (kind is 2) ≡ false → event_of kind v ≡ e → place < b.size * 2
-      → ((q : ℕ) → answer (code_at (side_of place) e (chip_at place)) place (value_at (side_of place) e v (chip_at place)) q ≡ answered b (at place e) v q)
-      → carried b (single b.decoder (marks_of b.size b.chips) kind 0 place v (caller_of (marks_of b.size b.chips))) ≡ result b (at place e) v
-  unfolding carried changed_of touched_of act_of taken
-  does_at kind place v e f g i h p =
-      rw (f, g, i, index place h)
-      (settles_one (at place e) v (place / 2) (step (side_of place) e (chip_at place)) (answer (code_at (side_of place) e (chip_at place)) place (value_at (side_of place) e v (chip_at place)))
-      (omega arith) p (within_set (step (side_of place) e) blank b.size (place / 2) b.chips (omega arith)))
+  -- what the table says of it
+  abbrev acting : ℕ → Event → ℕ → Touched
+  acting place e v =
+      touched (step (side_of place) e (chip_of place)) (code_at (side_of place) e (chip_of place)) place (value_at (side_of place) e v (chip_of place))
+
+  acts : (place v : ℕ) (e : Event) (c : Chip) → c ≡ chip_of place → touched_of c place (Act e) v ≡ acting place e v
+  unfolding touched_of acted_of act_of
+  acts place v e c i = rw i (ap (touched_by place) (acting_is (side_of place) e v (chip_of place)))
+
+  placed : (due : Bool) (place v : ℕ) (e : Event) → place < b.size * 2
+      → stepped (carried (listened b (At place e)) (looked b due) (One place (Act e)) v)
+      ≡ held b (set b.chips (place / 2) (acting place e v).chip) b.decoder
+      (answer (acting place e v).code place (acting place e v).value (caller_of (marked_of (marks_of b.size b.chips) (place / 2) (acting place e v).chip)))
+  unfolding carried
+  placed due place v e h =
+      ap (λ (x : Touched). stepped (changed_of (listened b (At place e)) (looked b due) place x))
+      (acts place v e (get_or b.chips (index_of place) blank) (ap (λ (k : ℕ). get_or b.chips k blank) (index place h)))
+      ∙ one (At place e) due place (acting place e v)
+      ∙ rw (index place h)
+
+  does_at : (due : Bool) (place v : ℕ) (e : Event) → place < b.size * 2
+      → ((q : ℕ) → answer (code_at (side_of place) e (chip_of place)) place (value_at (side_of place) e v (chip_of place)) q ≡ answered b (At place e) v q)
+      → stepped (carried (listened b (At place e)) (looked b due) (One place (Act e)) v) ≡ result b (At place e) v
+  unfolding taken
+  does_at due place v e h p =
+      placed due place v e h
+      ∙ settles_one (At place e) v (place / 2) (step (side_of place) e (chip_of place)) (answer (code_at (side_of place) e (chip_of place)) place (value_at (side_of place) e v (chip_of place)))
+      (omega arith) p (within_set (step (side_of place) e) blank b.size (place / 2) b.chips (omega arith))
 
   -- a control byte that is refused
-  does_nothing : (kind place v code : ℕ) → (kind is 1) ≡ false → (kind is 2) ≡ false → (kind is 3) ≡ true → place < b.size * 2
-      → code_of (heard (side_of place) v (chip_at place)) ≡ code → step_word (side_of place) (heard (side_of place) v (chip_at place)) (chip_at place) ≡ chip_at place
-      → carried b (single b.decoder (marks_of b.size b.chips) kind 0 place v (caller_of (marks_of b.size b.chips))) ≡ record { board = b; answer = answer code place v (request_of b) }
-  unfolding carried changed_of touched_of act_of step
-  does_nothing kind place v code f g t h c w =
-      rw (f, g, event_control kind v t, index place h, w, c)
-      (ap (λ (ms : Marks). held b (set b.chips (place / 2) (chip_at place)) b.decoder (answer code place v (caller_of ms))) (sym (marks_set b.size b.chips (place / 2) (chip_at place) (omega arith)))
+  does_nothing : (due : Bool) (place v w code : ℕ) → place < b.size * 2
+      → code_of (heard (side_of place) w (chip_of place)) ≡ code → step_word (side_of place) (heard (side_of place) w (chip_of place)) (chip_of place) ≡ chip_of place
+      → stepped (carried (listened b (At place (Control w))) (looked b due) (One place (Act (Control w))) v) ≡ record { board = b; answer = answer code place v (request_of b) }
+  unfolding step
+  does_nothing due place v w code h c i =
+      placed due place v (Control w) h
+      ∙ rw (i, c)
+      (ap (λ (ms : Marks). held b (set b.chips (place / 2) (chip_of place)) b.decoder (answer code place v (caller_of ms))) (sym (marks_set b.size b.chips (place / 2) (chip_of place) (omega arith)))
       ∙ ap (λ (x : List Chip). held b x b.decoder (answer code place v (caller_of (marks_of b.size x)))) (set-get_or b.chips (place / 2) blank)
       ∙ ap (λ (r : ℕ). record { board = b; answer = answer code place v r }) (request_is b.size b.chips b.decoder))
 
   -- ---- the event's four bytes
-  module _ (due : Bool) (right : due ≡ false → Still (there b)) (e : List ℕ) where
-    abbrev marks : Marks
-    marks = marks_of b.size b.chips
+  named_is : (x : Bool) (k : ℕ) → named_by (if x then k + 1 else 0) ≡ (if x then Some k else None)
+  named_is true k = let e : k + 1 - 1 ≡ k = omega arith in rw (ne_eqb (k + 1) 0 (λ n. omega (arith, n)), e)
+  named_is false k = refl
 
-    stops : (length e is 4) ≡ false → carried b (idle b.decoder marks 32 0 0 0) ≡ step_of b e
-    unfolding carried step_of
-    stops l = rw l
+  module _ (due : Bool) (right : due ≡ false → Still (there b)) (e : List ℕ) (l : (length e is 4) ≡ true) where
+    abbrev ends : Doing → Stepped
+    ends g = stepped (carried (listened b g) (looked b due) (plan_of b.decoder (looked b due) g) (value_of e))
 
-    module _ (l : (length e is 4) ≡ true) where
-      refuses : (early_at b.size e is 0) ≡ false → carried b (idle b.decoder marks (early_at b.size e) (place_of e) (value_of e) (caller_of marks)) ≡ step_of b e
-      unfolding carried
-      refuses z =
-          ap (λ (r : ℕ). record { board = b; answer = answer (early_at b.size e) (place_of e) (value_of e) r }) (request_is b.size b.chips b.decoder)
-          ∙ sym (step_refuses b e (early_at b.size e) l (refusal_is b e s ∙ if_off (early_at b.size e is 0) _ _ z) z s)
+    refuses : (r : Refusal) → read_of b.size e ≡ Err r → (number_of r is 0) ≡ false → record { board = b; answer = answer (number_of r) (place_of e) (value_of e) (caller_of (marks_of b.size b.chips)) } ≡ step_of b e
+    refuses r h z =
+        let i : early_at b.size e ≡ number_of r = sym (read_is b.size e) ∙ ap code_of h in
+        ap (λ (q : ℕ). record { board = b; answer = answer (number_of r) (place_of e) (value_of e) q }) (request_is b.size b.chips b.decoder)
+        ∙ sym (step_refuses b e (number_of r) l (refusal_is b e s ∙ if_off (early_at b.size e is 0) _ _ (rw i z) ∙ i) z s)
 
-      module _ (z : (early_at b.size e is 0) ≡ true) where
-        on_board : place_of e < b.size * 2
-        on_board = place_there b.size (kind_of e) (place_of e) (value_of e) (last_of e) z
+    module _ (a : read_of b.size e ≡ Ok (doing_of e)) where
+      none_early : (early_at b.size e is 0) ≡ true
+      none_early = eq-eqb (early_at b.size e) 0 (sym (read_is b.size e) ∙ ap code_of a)
 
-        words_left : refusal b e ≡ verdict (word_lines b e)
-        words_left = refusal_is b e s ∙ if_on (early_at b.size e is 0) _ _ z
+      on_board : place_of e < b.size * 2
+      on_board = place_there b.size (kind_of e) (place_of e) (value_of e) (last_of e) none_early
 
-        takes : (g : Doing) (x : Stepped) → doing_of e ≡ g → (kind_of e is 3) ≡ false → x ≡ result b g (value_of e) → x ≡ step_of b e
-        takes g x i k h = h ∙ sym (step_accepts b e l (words_left ∙ rw k) ∙ ap (λ (d : Doing). result b d (value_of e)) i)
+      words_left : refusal b e ≡ verdict (word_lines b e)
+      words_left = refusal_is b e s ∙ if_on (early_at b.size e is 0) _ _ none_early
 
-        not_three : (m : ℕ) → (m is 3) ≡ false → (kind_of e is m) ≡ true → (kind_of e is 3) ≡ false
-        not_three m n k = rw (eqb-true (kind_of e) m k) n
+      takes : (g : Doing) → doing_of e ≡ g → (kind_of e is 3) ≡ false → ends g ≡ result b g (value_of e) → ends (doing_of e) ≡ step_of b e
+      takes g i k h = ap ends i ∙ h ∙ sym (step_accepts b e l (words_left ∙ rw k) ∙ ap (λ (d : Doing). result b d (value_of e)) i)
 
-        by_fetch : (kind_of e is 1) ≡ true → carried b (fetch_plan b.decoder marks due (value_of e) (caller_of marks)) ≡ step_of b e
-        unfolding fetch_plan doing_of
-        by_fetch k =
-            let v = value_of e in
-            let kind = eqb-true (kind_of e) 1 k in
-            takes (fetch v) (carried b (fetch_plan b.decoder marks due v (caller_of marks))) (rw kind) (not_three 1 refl k)
-            (by_cases (reti_of b.decoder v)
-            (λ t. rw (t, holder_is b.size b.chips)
-            (by_cases (ltb (holder (ports b)) (length (ports b)))
-            (λ u. rw (u, ne_eqb (holder (ports b) + 1) 0 (λ n. omega (arith, n)))
-            (does_free due v (holder (ports b) + 1 - 1) right t (omega arith) (omega (arith, ltb-true (holder (ports b)) (length (ports b)) u, places))))
-            (λ u. rw u (does_fetch due v right (fetch_nobody v u)))))
-            (λ t. rw t (does_fetch due v right (fetch_still v t))))
+      not_three : (m : ℕ) → (m is 3) ≡ false → (kind_of e is m) ≡ true → (kind_of e is 3) ≡ false
+      not_three m n k = rw (eqb-true (kind_of e) m k) n
 
-        by_reset : (kind_of e is 0) ≡ true → carried b (reset_plan marks (value_of e) (caller_of marks)) ≡ step_of b e
-        unfolding doing_of
-        by_reset k = takes reset (carried b (reset_plan marks (value_of e) (caller_of marks))) (rw k) (not_three 0 refl k) (does_reset (value_of e) (caller_of marks))
+      fetches : (v : ℕ) → stepped (carried (listened b (Fetch v)) (looked b due) (fetch_plan b.decoder (looked b due) v) v) ≡ result b (Fetch v) v
+      unfolding fetch_plan freed_of
+      fetches v =
+          by_cases (reti_of b.decoder v)
+          (λ t. rw (t, holder_is b.size b.chips, named_is (ltb (holder (ports b)) (length (ports b))) (holder (ports b)))
+          (by_cases (ltb (holder (ports b)) (length (ports b)))
+          (λ u. rw u (does_free due v (holder (ports b)) right t refl (omega (arith, ltb-true (holder (ports b)) (length (ports b)) u, places))))
+          (λ u. rw u (does_fetch due v right (fetch_nobody v u)))))
+          (λ t. rw t (does_fetch due v right (fetch_still v t)))
 
-        plan_answer : asks (ports b) ≡ true → acknowledge_plan marks (caller_of marks) ≡ single shut marks 2 2 (asker (ports b) + 1 - 1) 0 (caller_of marks)
-        unfolding acknowledge_plan
-        plan_answer t = rw (caller_is b.size b.chips, t, ne_eqb (asker (ports b) + 1) 0 (λ n. omega (arith, n)))
+      by_fetch : (kind_of e is 1) ≡ true → ends (doing_of e) ≡ step_of b e
+      unfolding doing_of
+      by_fetch k = takes (Fetch (value_of e)) (rw (eqb-true (kind_of e) 1 k)) (not_three 1 refl k) (fetches (value_of e))
 
-        plan_nobody : asks (ports b) ≡ false → acknowledge_plan marks (caller_of marks) ≡ idle shut marks 3 0 255 (caller_of marks)
-        unfolding acknowledge_plan
-        plan_nobody t = rw (caller_is b.size b.chips, t)
+      by_reset : (kind_of e is 0) ≡ true → ends (doing_of e) ≡ step_of b e
+      unfolding doing_of
+      by_reset k = takes Reset (rw k) (not_three 0 refl k) (does_reset due (value_of e))
 
-        by_acknowledge : (kind_of e is 2) ≡ true → carried b (acknowledge_plan marks (caller_of marks)) ≡ step_of b e
-        unfolding doing_of
-        by_acknowledge k =
-            takes acknowledge (carried b (acknowledge_plan marks (caller_of marks))) (rw (eqb-true (kind_of e) 2 k)) (not_three 2 refl k)
-            (by_cases (asks (ports b))
-            (λ t. ap (carried b) (plan_answer t)
-            ∙ does_answer (value_of e) (asker (ports b) + 1 - 1) t (omega arith) (omega (arith, ltb-true (asker (ports b)) (length (ports b)) t, places)))
-            (λ t. ap (carried b) (plan_nobody t) ∙ does_nobody (value_of e) t))
+      acknowledges : (v : ℕ) → stepped (carried (listened b Acknowledge) (looked b due) (acknowledge_plan (caller_of (marks_of b.size b.chips))) v) ≡ result b Acknowledge v
+      unfolding acknowledge_plan
+      acknowledges v =
+          by_cases (asks (ports b))
+          (λ t. ap (λ (p : Plan). stepped (carried (listened b Acknowledge) (looked b due) p v)) (rw (caller_is b.size b.chips, named_is (asks (ports b)) (asker (ports b)), t))
+          ∙ does_answer due v (asker (ports b)) t refl (omega (arith, ltb-true (asker (ports b)) (length (ports b)) t, places)))
+          (λ t. ap (λ (p : Plan). stepped (carried (listened b Acknowledge) (looked b due) p v)) (rw (caller_is b.size b.chips, named_is (asks (ports b)) (asker (ports b)), t))
+          ∙ does_nobody due v t)
 
-        abbrev at_plan : Plan
-        at_plan = single b.decoder marks (kind_of e) 0 (place_of e) (value_of e) (caller_of marks)
+      by_acknowledge : (kind_of e is 2) ≡ true → ends (doing_of e) ≡ step_of b e
+      unfolding doing_of
+      by_acknowledge k = takes Acknowledge (rw (eqb-true (kind_of e) 2 k)) (not_three 2 refl k) (acknowledges (value_of e))
 
-        doing_at : (kind_of e is 0) ≡ false → (kind_of e is 1) ≡ false → (kind_of e is 2) ≡ false → doing_of e ≡ at (place_of e) (event_of (kind_of e) (value_of e))
-        unfolding doing_of
-        doing_at i j k = rw (i, j, k)
+      doing_at : (kind_of e is 0) ≡ false → (kind_of e is 1) ≡ false → (kind_of e is 2) ≡ false → doing_of e ≡ At (place_of e) (event_of (kind_of e) (value_of e))
+      unfolding doing_of
+      doing_at i j k = rw (i, j, k)
 
-        -- the word that the table speaks of is the one that the chip hears
-        word_is : word_code b (place_of e) (value_of e) ≡ code_of (heard (side_of (place_of e)) (value_of e) (chip_at (place_of e)))
-        word_is = rw (port_there (place_of e) on_board)
+      -- the word that the table speaks of is the one that the chip hears
+      word_is : word_code b (place_of e) (value_of e) ≡ code_of (heard (side_of (place_of e)) (value_of e) (chip_of (place_of e)))
+      word_is = rw (port_there (place_of e) on_board)
 
-        refuses_word : (code : ℕ) → (kind_of e is 1) ≡ false → (kind_of e is 2) ≡ false → (kind_of e is 3) ≡ true
-            → code_of (heard (side_of (place_of e)) (value_of e) (chip_at (place_of e))) ≡ code → (code is 0) ≡ false → verdict (line (code is 19) 19 ∷ line (code is 20) 20 ∷ []) ≡ code
-            → step_word (side_of (place_of e)) (heard (side_of (place_of e)) (value_of e) (chip_at (place_of e))) (chip_at (place_of e)) ≡ chip_at (place_of e)
-            → carried b at_plan ≡ step_of b e
-        refuses_word code j k t c n v w =
-            does_nothing (kind_of e) (place_of e) (value_of e) code j k t on_board c w
-            ∙ sym (step_refuses b e code l (words_left ∙ rw (t, word_is, c) v) n s)
+      control_at : (kind_of e is 0) ≡ false → (kind_of e is 1) ≡ false → (kind_of e is 2) ≡ false → (kind_of e is 3) ≡ true → doing_of e ≡ At (place_of e) (Control (value_of e))
+      control_at i j k t = doing_at i j k ∙ ap (At (place_of e)) (event_control (kind_of e) (value_of e) t)
 
-        by_control : (kind_of e is 0) ≡ false → (kind_of e is 1) ≡ false → (kind_of e is 2) ≡ false → (kind_of e is 3) ≡ true → carried b at_plan ≡ step_of b e
-        by_control i j k t =
-            let side = side_of (place_of e) in
-            let c = chip_at (place_of e) in
-            by_heard (heard side (value_of e) c)
-            (λ w h.
-            does_at (kind_of e) (place_of e) (value_of e) (control (value_of e)) j k (event_control (kind_of e) (value_of e) t) on_board (λ q. rw h)
-            ∙ sym (step_accepts b e l (words_left ∙ rw (t, word_is, h))
-            ∙ ap (λ (d : Doing). result b d (value_of e)) (doing_at i j k ∙ ap (at (place_of e)) (event_control (kind_of e) (value_of e) t))))
-            (λ h. refuses_word 19 j k t (ap code_of h) refl refl (ap (λ (x : Heard). step_word side x c) h))
-            (λ h. refuses_word 20 j k t (ap code_of h) refl refl (ap (λ (x : Heard). step_word side x c) h))
+      refuses_word : (r : Refusal) → heard (side_of (place_of e)) (value_of e) (chip_of (place_of e)) ≡ Err r → doing_of e ≡ At (place_of e) (Control (value_of e)) → (kind_of e is 3) ≡ true
+          → verdict (line (number_of r is 19) 19 ∷ line (number_of r is 20) 20 ∷ []) ≡ number_of r → (number_of r is 0) ≡ false → ends (doing_of e) ≡ step_of b e
+      refuses_word r h i t v z =
+          ap ends i
+          ∙ does_nothing due (place_of e) (value_of e) (value_of e) (number_of r) on_board (ap code_of h) (ap (λ (x : Result Word Refusal). step_word (side_of (place_of e)) x (chip_of (place_of e))) h)
+          ∙ sym (step_refuses b e (number_of r) l (words_left ∙ rw (t, word_is, h) v) z s)
 
-        by_place : (kind_of e is 0) ≡ false → (kind_of e is 1) ≡ false → (kind_of e is 2) ≡ false → carried b at_plan ≡ step_of b e
-        by_place i j k =
-            by_cases (kind_of e is 3) (by_control i j k)
-            (λ t. takes (at (place_of e) (event_of (kind_of e) (value_of e))) (carried b at_plan) (doing_at i j k) t
-            (does_at (kind_of e) (place_of e) (value_of e) (event_of (kind_of e) (value_of e)) j k refl on_board
-            (answer_plain (place_of e) (value_of e) (event_of (kind_of e) (value_of e)) on_board (event_plain (kind_of e) (value_of e) t))))
+      by_control : (kind_of e is 0) ≡ false → (kind_of e is 1) ≡ false → (kind_of e is 2) ≡ false → (kind_of e is 3) ≡ true → ends (doing_of e) ≡ step_of b e
+      by_control i j k t =
+          let d = control_at i j k t in
+          by_heard (port (side_of (place_of e)) (chip_of (place_of e))).awaiting (is_b (side_of (place_of e))) (value_of e)
+          (λ w h.
+          ap ends d ∙ does_at due (place_of e) (value_of e) (Control (value_of e)) on_board (λ q. rw h)
+          ∙ sym (step_accepts b e l (words_left ∙ rw (t, word_is, h)) ∙ ap (λ (g : Doing). result b g (value_of e)) d))
+          (λ h. refuses_word NoForm h d t refl refl)
+          (λ h. refuses_word NotOnB h d t refl refl)
 
-        goes_on : carried b (accepted_plan b.decoder marks due (caller_of marks) (kind_of e) (place_of e) (value_of e)) ≡ step_of b e
-        unfolding accepted_plan
-        goes_on =
-            by_cases (kind_of e is 1) (λ j. rw j (by_fetch j)) (λ j. rw j
-            (by_cases (kind_of e is 0) (λ i. rw i (by_reset i)) (λ i. rw i
-            (by_cases (kind_of e is 2) (λ k. rw k (by_acknowledge k)) (λ k. rw k (by_place i j k))))))
+      by_place : (kind_of e is 0) ≡ false → (kind_of e is 1) ≡ false → (kind_of e is 2) ≡ false → ends (doing_of e) ≡ step_of b e
+      by_place i j k =
+          by_cases (kind_of e is 3) (by_control i j k)
+          (λ t. takes (At (place_of e) (event_of (kind_of e) (value_of e))) (doing_at i j k) t
+          (does_at due (place_of e) (value_of e) (event_of (kind_of e) (value_of e)) on_board
+          (answer_plain (place_of e) (value_of e) (event_of (kind_of e) (value_of e)) on_board (event_plain (kind_of e) (value_of e) t))))
+
+      goes_on : ends (doing_of e) ≡ step_of b e
+      goes_on =
+          by_cases (kind_of e is 1) by_fetch (λ j.
+          by_cases (kind_of e is 0) by_reset (λ i.
+          by_cases (kind_of e is 2) by_acknowledge (by_place i j)))
 
     -- THE HALVES ARE THE STEP
-    pub halves : carried b (plan_of b.size b.decoder marks due (caller_of marks) e) ≡ step_of b e
-    unfolding plan_of
-    halves =
-        by_cases (length e is 4) (λ l. rw l
-        (by_cases (early_at b.size e is 0) (λ z. rw z (goes_on l z)) (λ z. rw z (refuses l z)))) (λ l. rw l (stops l))
+    pub halves : stepped (advanced_of b (looked b due) e) ≡ step_of b e
+    unfolding advanced_of
+    halves = by_read b.size e (λ r h z. rw h (refuses r h z)) (λ a. rw a (goes_on a))

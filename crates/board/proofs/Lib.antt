@@ -5,5 +5,5 @@ pub mod Ways
 pub mod Tables
 pub mod Ports
 pub mod Halves
-pub mod Plans
+pub mod Kept
 pub mod Steps

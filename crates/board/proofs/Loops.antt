@@ -8,18 +8,18 @@ use Prim.Native.Nat.{ℕ, zero, suc, ◌+◌, ◌≤◌, ◌<◌}
 use native.Mathlib.Nat.{not-suc-le-zero, le_of_suc-le-suc}
 use native.Mathlib.Omega.{arith}
 use lib.Dec.{ltb}
+use lib.Dec.{min}
 use borrow.Author.Tests.{ltb-true, ltb-false}
 use lib.ListN.{length, length-set, get_or, set, take, drop}
 use lib.Seq.{set-get_or}
-use Rattle.bits.proofs.Logic.{by_cases, both}
+use Rattle.bits.proofs.Logic.{by_cases}
 use Rattle.chip.specs.declared.Chip.{Chip}
 use Rattle.chip.specs.Sound.{sound_chip}
 use Rattle.chain.specs.Chain.{most}
 use Rattle.chain.specs.Marks.{Marks, unmarked_of, marked_of, marks_of}
 use Rattle.chain.proofs.Marks.{none_marked, one_more_marked, all_marked}
-use Rattle.board.specs.Board.{within, sound_all, size_ok}
-use Rattle.board.specs.Halves.{stirs, stirs_some, look_of, blank}
-use Rattle.board.specs.declared.Look.{Look}
+use Rattle.board.specs.Board.{within, sound_all}
+use Rattle.board.specs.Halves.{stirs, stirs_some, blank}
 
 module _ {A B : Type 0} (g : A → B) where
   abbrev pub fill : ℕ → ℕ → List B → List A → List B
@@ -79,24 +79,6 @@ left_done (suc i) zero cs h = refl
 left_done (suc i) (suc n) [] h = refl
 left_done (suc i) (suc n) (c ∷ cs) h = left_done i n cs (le_of_suc-le-suc h)
 
-pub left_all : (i n : ℕ) (cs : List Chip) → length cs ≤ i → drop i (take n cs) ≡ []
-left_all zero zero cs h = refl
-left_all zero (suc n) [] h = refl
-left_all zero (suc n) (c ∷ cs) h = absurd (not-suc-le-zero h)
-left_all (suc i) zero cs h = refl
-left_all (suc i) (suc n) [] h = refl
-left_all (suc i) (suc n) (c ∷ cs) h = left_all i n cs (le_of_suc-le-suc h)
-
--- ---- a loop's test: index i is in the list of m, and below n
-pub in_list : (i m n : ℕ) → (ltb i m && ltb i n) ≡ true → i < m
-in_list i m n t = ltb-true i m (both (ltb i m) (ltb i n) t).0
-
-pub in_size : (i m n : ℕ) → (ltb i m && ltb i n) ≡ true → i < n
-in_size i m n t = ltb-true i n (both (ltb i m) (ltb i n) t).1
-
-past : {X : Type 0} (i m n : ℕ) → (ltb i m && ltb i n) ≡ false → (m ≤ i → X) → (n ≤ i → X) → X
-past i m n t f g = by_cases (ltb i m) (λ e. g (ltb-false i n (rw e at t))) (λ e. f (ltb-false i m e))
-
 -- ---- one look at every chip that is there
 and_moves : (a b c : Bool) → (a && b && c) ≡ (a && (b && c))
 and_moves true b c = refl
@@ -108,13 +90,12 @@ or_moves false b c = refl
 
 module _ (n : ℕ) (cs : List Chip) where
   pub record Looking (sound due : Bool) (marks : Marks) (i : ℕ) : Type 0 where
-    pub sounds : (sound && sound_all (drop i (take n cs))) ≡ (size_ok n && sound_all (take n cs))
+    pub sounds : (sound && sound_all (drop i (take n cs))) ≡ sound_all (take n cs)
     pub dues : (due || stirs_some (drop i (take n cs))) ≡ stirs_some (take n cs)
     pub marked : marks ≡ marks_of i cs
-    pub upto : i ≤ n
 
-  pub look_begins : (ms : Marks) → length cs ≡ most → ms ≡ unmarked_of → Looking (size_ok n) false ms 0
-  look_begins ms h e = record { sounds = refl; dues = refl; marked = e ∙ none_marked most cs h; upto = omega arith }
+  pub look_begins : (ms : Marks) → length cs ≡ most → ms ≡ unmarked_of → Looking true false ms 0
+  look_begins ms h e = record { sounds = refl; dues = refl; marked = e ∙ none_marked most cs h }
 
   pub look_turns :
       {s d : Bool} {ms : Marks} {i : ℕ} (x y : Bool) (next : Marks) → Looking s d ms i → i < n → i < length cs
@@ -126,7 +107,6 @@ module _ (n : ℕ) (cs : List Chip) where
         sounds = rw (ex) (and_moves s (sound_chip (get_or cs i blank)) (sound_all past) ∙ (rw (rest) at l.sounds));
         dues = rw (ey) (or_moves d (stirs (get_or cs i blank)) (stirs_some past) ∙ (rw (rest) at l.dues));
         marked = en ∙ ap (λ (m : Marks). marked_of m i (get_or cs i blank)) l.marked ∙ one_more_marked i cs (get_or cs i blank) k ∙ ap (marks_of (i + 1)) (set-get_or cs i blank);
-        upto = omega (arith, h);
       }
 
   and_end : (a : Bool) → (a && true) ≡ a
@@ -137,20 +117,10 @@ module _ (n : ℕ) (cs : List Chip) where
   or_end true = refl
   or_end false = refl
 
-  look_is : (s d x y : Bool) (ms ns : Marks) → s ≡ x → d ≡ y → ms ≡ ns → ◌≡◌ {A = Look} (record { sound = s; due = d; marks = ms }) (record { sound = x; due = y; marks = ns })
-  look_is s d x y ms ns e f g = rw (e, f, g)
-
-  ends : {s d : Bool} {ms : Marks} {i : ℕ} → Looking s d ms i → drop i (take n cs) ≡ [] → marks_of i cs ≡ marks_of n cs → ◌≡◌ {A = Look} (record { sound = s; due = d; marks = ms }) (look_of n cs)
-  unfolding look_of
-  ends {s} {d} {ms} {i} l e f =
-      look_is s d (size_ok n && sound_all (take n cs)) (stirs_some (take n cs)) ms (marks_of n cs)
-      (sym (and_end s) ∙ (rw e at l.sounds)) (sym (or_end d) ∙ (rw e at l.dues)) (l.marked ∙ f)
-
-  pub look_ends : {s d : Bool} {ms : Marks} {i : ℕ} (m : ℕ) → Looking s d ms i → length cs ≡ m → (ltb i m && ltb i n) ≡ false → ◌≡◌ {A = Look} (record { sound = s; due = d; marks = ms }) (look_of n cs)
-  look_ends {i = i} m l e t =
-      past i m n t
-      (λ h. ends l (left_all i n cs (rw e h)) (all_marked i n cs (rw e h) l.upto))
-      (λ h. ends l (left_done i n cs h) (ap (λ (j : ℕ). marks_of j cs) (omega (arith, h, l.upto))))
+  pub look_ends : {s d : Bool} {ms : Marks} {i : ℕ} → Looking s d ms i → i ≡ n → (s ≡ sound_all (take n cs)) × ((d ≡ stirs_some (take n cs)) × (ms ≡ marks_of n cs))
+  look_ends {s} {d} {ms} {i} l t =
+      let e = left_done i n cs (omega (arith, t)) in
+      (sym (and_end s) ∙ (rw e at l.sounds), (sym (or_end d) ∙ (rw e at l.dues), l.marked ∙ ap (λ (j : ℕ). marks_of j cs) t))
 
 -- ---- each chip that is there changed in its turn
 module _ (f : Chip → Chip) (n : ℕ) (cs : List Chip) where
@@ -174,10 +144,10 @@ module _ (f : Chip → Chip) (n : ℕ) (cs : List Chip) where
         upto = omega (arith, h);
       }
 
-  pub sweep_ends :
-      {next : List Chip} {ms : Marks} {i : ℕ} (m : ℕ) → Sweeping next ms i → length cs ≡ m → (ltb i m && ltb i n) ≡ false
-      → (next ≡ within n (map f) cs) × (ms ≡ marks_of n next)
+  pub sweep_ends : {next : List Chip} {ms : Marks} {i : ℕ} (m : ℕ) → Sweeping next ms i → length cs ≡ m → i ≡ min m n → (next ≡ within n (map f) cs) × (ms ≡ marks_of n next)
   sweep_ends {next} {ms} {i} m l e t =
-      past i m n t
-      (λ h. (sym (fill_all f i n next cs (rw (l.long, e) h)) ∙ l.fills, l.marked ∙ all_marked i n next (rw (l.long, e) h) l.upto))
-      (λ h. (sym (fill_done f i n next cs h) ∙ l.fills, l.marked ∙ ap (λ (j : ℕ). marks_of j next) (omega (arith, h, l.upto))))
+      by_cases (ltb n m)
+      (λ h. let k : i ≡ n = omega (arith, t, ltb-true n m h) in
+          (sym (fill_done f i n next cs (omega (arith, k))) ∙ l.fills, l.marked ∙ ap (λ (j : ℕ). marks_of j next) k))
+      (λ h. let k : m ≤ i = omega (arith, t, ltb-false n m h) in
+          (sym (fill_all f i n next cs (rw (l.long, e) k)) ∙ l.fills, l.marked ∙ all_marked i n next (rw (l.long, e) k) l.upto))

@@ -1,7 +1,7 @@
 -- The port at a place; and that nothing happens where nobody is under service, nobody asks, or no port is stirred.
 -- Assumes nothing.
-use mathlib.Core.Path.{◌≡◌, refl}
-use mathlib.Core.Bool.{Bool, true, false, ◌&&◌, not}
+use mathlib.Core.Path.{◌≡◌, refl, ap}
+use mathlib.Core.Bool.{Bool, true, false, ◌&&◌, ◌||◌, not, true≢false}
 use mathlib.Core.List.{List, [], ◌∷◌, map}
 use Prim.Native.Nat.{ℕ, zero, suc, ◌/◌, ◌%◌, ◌≤◌, ◌<◌}
 use native.Mathlib.Nat.{not-suc-le-zero}
@@ -9,7 +9,9 @@ use native.Mathlib.Omega.{arith}
 use lib.Dec.{ltb}
 use lib.ListN.{length, length-map, get_or}
 use borrow.Author.Tests.{ltb-false}
-use Rattle.port.specs.Rules.{served, released}
+use Rattle.bits.specs.Bits.{◌is◌}
+use Rattle.port.specs.Fields.{live_at}
+use Rattle.port.specs.Rules.{woken, served, released}
 use Rattle.port.specs.declared.Port.{Port}
 use Rattle.chip.specs.declared.Chip.{Chip}
 use Rattle.chip.specs.Chip.{Side, A, B, port, on}
@@ -18,7 +20,7 @@ use Rattle.chain.specs.Places.{first, adjust}
 use Rattle.chain.specs.Chain.{under, asking, asker, asks, holder, flat, side_of, acknowledged, retired}
 use Rattle.chain.proofs.Places.{adjust_beyond}
 use Rattle.chain.proofs.Flat.{flat_length}
-use Rattle.board.specs.Halves.{blank}
+use Rattle.board.specs.Halves.{stirs_port, stirs, stirs_some, blank}
 
 -- ---- the port at a place
 pub port_at_lem : (cs : List Chip) (k : ℕ) (d : Port) → k < length (flat cs) → get_or (flat cs) k d ≡ port (side_of k) (get_or cs (k / 2) blank)
@@ -62,3 +64,30 @@ fetch_free s i [] = refl
 fetch_free A zero (c ∷ cs) = refl
 fetch_free B zero (c ∷ cs) = refl
 fetch_free s (suc i) (c ∷ cs) = rw (fetch_free s i cs)
+
+-- ---- where no port is stirred a fetch changes nothing
+quiet_bit : (asked masked live : Bool) → (asked && not masked && not live) ≡ false → (live || (asked && not masked)) ≡ live
+quiet_bit asked masked true e = refl
+quiet_bit true true false e = refl
+quiet_bit true false false e = e
+quiet_bit false masked false e = refl
+
+woken_same : (p : Port) → stirs_port p ≡ false → woken p ≡ p
+woken_same p e = ap (λ (l : Bool). live_at l p) (quiet_bit p.asked (p.awaiting is 2) p.live e)
+
+pub neither : (x y : Bool) → (x || y) ≡ false → (x ≡ false) × (y ≡ false)
+neither true y e = absurd (true≢false e)
+neither false y e = (refl, e)
+
+chip_same : (c : Chip) (x y : Port) → x ≡ c.a → y ≡ c.b → ◌≡◌ {A = Chip} (record { a = x; b = y }) c
+chip_same c x y e f = rw (e, f)
+
+pub quiet_chip : (c : Chip) → stirs c ≡ false → chip.fetch c ≡ c
+unfolding stirs
+quiet_chip c e =
+    let n = neither (stirs_port c.a) (stirs_port c.b) e in
+    chip_same c (woken c.a) (woken c.b) (woken_same c.a n.0) (woken_same c.b n.1)
+
+pub quiet : (cs : List Chip) → stirs_some cs ≡ false → Still cs
+quiet [] e = refl
+quiet (c ∷ cs) e = let n = neither (stirs c) (stirs_some cs) e in rw (quiet_chip c n.0, quiet cs n.1)

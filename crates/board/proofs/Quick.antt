@@ -24,8 +24,10 @@ use Rattle.chain.specs.Places.{adjust}
 use Rattle.chain.specs.Chain.{flat, asker, holder, side_of, acknowledged, retired}
 use Rattle.chain.specs.Decode.{reti_of}
 use Rattle.board.specs.declared.Board.{Board}
+use Rattle.board.specs.declared.Doing.{Doing}
+use Rattle.board.specs.declared.Doing.TheVariants.{Reset, Fetch, Acknowledge, At}
 use Rattle.board.specs.Board.{there, sound_all, size_ok, sound_board}
-use Rattle.board.specs.Step.{kind_of, value_of, Doing, reset, fetch, acknowledge, at, doing_of, after, refusal, taken, accepted, refused, step_of}
+use Rattle.board.specs.Step.{kind_of, value_of, doing_of, after, refusal, taken, accepted, refused, step_of}
 use Rattle.board.proofs.There.{there_taken}
 
 -- ---- what keeps a chip sound keeps a row of chips sound
@@ -65,10 +67,10 @@ abbrev pub cleaned : Chip → Chip
 cleaned c = settle (chip.reset c)
 
 abbrev pub quick : Decoder → Doing → List Chip → List Chip
-quick d reset cs = map cleaned cs
-quick d (fetch byte) cs = map chip.fetch (if reti_of d byte then retired cs else cs)
-quick d acknowledge cs = acknowledged cs
-quick d (at place e) cs = adjust (step (side_of place) e) (place / 2) cs
+quick d Reset cs = map cleaned cs
+quick d (Fetch byte) cs = map chip.fetch (if reti_of d byte then retired cs else cs)
+quick d Acknowledge cs = acknowledged cs
+quick d (At place e) cs = adjust (step (side_of place) e) (place / 2) cs
 
 retired_sound : (cs : List Chip) → sound_all cs ≡ true → sound_all (retired cs) ≡ true
 unfolding retired
@@ -79,27 +81,27 @@ unfolding acknowledged
 acknowledged_sound cs h = adjust_sound (on (side_of (asker (flat cs))) served) (serve_sound (side_of (asker (flat cs)))) (asker (flat cs) / 2) cs h
 
 abbrev pub bytes_in : Doing → Bool
-bytes_in reset = true
-bytes_in (fetch byte) = true
-bytes_in acknowledge = true
-bytes_in (at place e) = byte_in e
+bytes_in Reset = true
+bytes_in (Fetch byte) = true
+bytes_in Acknowledge = true
+bytes_in (At place e) = byte_in e
 
-fetched_sound : (d : Decoder) (byte : ℕ) (cs : List Chip) → sound_all cs ≡ true → sound_all (quick d (fetch byte) cs) ≡ true
+fetched_sound : (d : Decoder) (byte : ℕ) (cs : List Chip) → sound_all cs ≡ true → sound_all (quick d (Fetch byte) cs) ≡ true
 fetched_sound d byte cs h =
     map_sound chip.fetch fetch_sound (if reti_of d byte then retired cs else cs)
     (choice_sound (reti_of d byte) (retired cs) cs (retired_sound cs h) h)
 
 pub quick_sound : (d : Decoder) (e : Doing) (cs : List Chip) → bytes_in e ≡ true → sound_all cs ≡ true → sound_all (quick d e cs) ≡ true
-quick_sound d reset cs byte h = map_sound cleaned reset_sound cs h
-quick_sound d (fetch v) cs byte h = fetched_sound d v cs h
-quick_sound d acknowledge cs byte h = acknowledged_sound cs h
-quick_sound d (at place e) cs byte h = adjust_sound (step (side_of place) e) (λ c. chip_sound (side_of place) e c byte) (place / 2) cs h
+quick_sound d Reset cs byte h = map_sound cleaned reset_sound cs h
+quick_sound d (Fetch v) cs byte h = fetched_sound d v cs h
+quick_sound d Acknowledge cs byte h = acknowledged_sound cs h
+quick_sound d (At place e) cs byte h = adjust_sound (step (side_of place) e) (λ c. chip_sound (side_of place) e c byte) (place / 2) cs h
 
 pub after_quick : (d : Decoder) (e : Doing) (cs : List Chip) → sound_all cs ≡ true → after d e cs ≡ quick d e cs
-after_quick d reset cs h = map_twice settle chip.reset cs
-after_quick d (fetch v) cs h = settle_all_same (quick d (fetch v) cs) (fetched_sound d v cs h)
-after_quick d acknowledge cs h = settle_all_same (acknowledged cs) (acknowledged_sound cs h)
-after_quick d (at place e) cs h = settle_touched (changed (side_of place) e) (step (side_of place) e) (step_is (side_of place) e) (place / 2) cs h
+after_quick d Reset cs h = map_twice settle chip.reset cs
+after_quick d (Fetch v) cs h = settle_all_same (quick d (Fetch v) cs) (fetched_sound d v cs h)
+after_quick d Acknowledge cs h = settle_all_same (acknowledged cs) (acknowledged_sound cs h)
+after_quick d (At place e) cs h = settle_touched (changed (side_of place) e) (step (side_of place) e) (step_is (side_of place) e) (place / 2) cs h
 
 -- ---- every event keeps a sound board sound
 pub parts : (b : Board) → sound_board b ≡ true → (size_ok b.size ≡ true) × (sound_all (there b) ≡ true)

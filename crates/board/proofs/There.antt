@@ -19,8 +19,10 @@ use Rattle.chain.specs.Chain.{flat, asker, holder, side_of, acknowledged, retire
 use Rattle.chain.specs.Decode.{reti_of}
 use Rattle.chain.proofs.Places.{adjust_length}
 use Rattle.board.specs.declared.Board.{Board}
+use Rattle.board.specs.declared.Doing.{Doing}
+use Rattle.board.specs.declared.Doing.TheVariants.{Reset, Fetch, Acknowledge, At}
 use Rattle.board.specs.Board.{there, within}
-use Rattle.board.specs.Step.{Doing, reset, fetch, acknowledge, at, change, after, taken}
+use Rattle.board.specs.Step.{change, after, taken}
 
 pub take_within : (n : ℕ) (xs cs : List Chip) → length xs ≡ length (take n cs) → take n (xs ++ drop n cs) ≡ xs
 take_within zero [] cs h = refl
@@ -37,12 +39,12 @@ choice_length false x y e = refl
 
 change_length : (d : Decoder) (e : Doing) (cs : List Chip) → length (change d e cs) ≡ length cs
 unfolding acknowledged retired
-change_length d reset cs = length-map cs chip.reset
-change_length d (fetch byte) cs =
+change_length d Reset cs = length-map cs chip.reset
+change_length d (Fetch byte) cs =
     length-map (if reti_of d byte then retired cs else cs) chip.fetch
     ∙ choice_length (reti_of d byte) (retired cs) cs (adjust_length (on (side_of (holder (flat cs))) released) (holder (flat cs) / 2) cs)
-change_length d acknowledge cs = adjust_length (on (side_of (asker (flat cs))) served) (asker (flat cs) / 2) cs
-change_length d (at place e) cs = adjust_length (changed (side_of place) e) (place / 2) cs
+change_length d Acknowledge cs = adjust_length (on (side_of (asker (flat cs))) served) (asker (flat cs) / 2) cs
+change_length d (At place e) cs = adjust_length (changed (side_of place) e) (place / 2) cs
 
 pub after_length : (d : Decoder) (e : Doing) (cs : List Chip) → length (after d e cs) ≡ length cs
 after_length d e cs = length-map (change d e cs) settle ∙ change_length d e cs

@@ -1,11 +1,15 @@
--- A flag's test turned over, and that a look tells whether a board is sound, for the crates above.
+-- A flag's test turned over, and what a look at a board tells of it, for the crates above.
 -- Assumes nothing.
+use Rattle.std.specs.Prelude.{Result, Ok, Err, if◌then◌else◌}
 use mathlib.Core.Path.{◌≡◌, refl, sym, ap}
-use mathlib.Core.Bool.{Bool, true, false, not}
+use mathlib.Core.Bool.{Bool, true, false, not, true≢false}
+use Rattle.std.specs.Result.{is_ok}
+use Rattle.refusals.specs.declared.Refusal.{Refusal}
+use Rattle.refusals.specs.declared.Refusal.TheVariants.{Unsound}
 use Rattle.board.specs.declared.Board.{Board}
 use Rattle.board.specs.declared.Look.{Look}
 use Rattle.board.specs.Board.{sound_board}
-use Rattle.board.specs.Halves.{look_of}
+use Rattle.board.specs.Halves.{look_of, seen_of}
 
 -- a flag's test turned over
 pub off : (b : Bool) → not b ≡ true → b ≡ false
@@ -17,6 +21,30 @@ on true e = refl
 on false e = sym e
 
 -- ---- a look at a board
-pub sound_is : (b : Board) (l : Look) → l ≡ look_of b.size b.chips → l.sound ≡ sound_board b
-unfolding look_of sound_board
-sound_is b l i = ap (λ (x : Look). x.sound) i
+pub record Sound (b : Board) (l : Look) : Type 0 where
+  pub sound : sound_board b ≡ true
+  pub look : l ≡ look_of b.size b.chips
+
+value_or : {A E : Type 0} → A → Result A E → A
+value_or d (Ok x) = x
+value_or d (Err r) = d
+
+error_or : {A E : Type 0} → E → Result A E → E
+error_or d (Ok x) = d
+error_or d (Err r) = r
+
+ok_look : (t : Bool) (l m : Look) → Ok l ≡ (if t then Ok m else Err Unsound) → (t ≡ true) × (l ≡ m)
+ok_look true l m e = (refl, ap (value_or m) e)
+ok_look false l m e = absurd (true≢false (ap is_ok e))
+
+pub seen_ok : (b : Board) (l : Look) → Ok l ≡ seen_of b → Sound b l
+unfolding seen_of
+seen_ok b l e = let x = ok_look (sound_board b) l (look_of b.size b.chips) e in record { sound = x.0; look = x.1 }
+
+err_look : (t : Bool) (r : Refusal) (m : Look) → Err r ≡ (if t then Ok m else Err Unsound) → (t ≡ false) × (r ≡ Unsound)
+err_look false r m e = (refl, ap (error_or r) e)
+err_look true r m e = absurd (true≢false (sym (ap is_ok e)))
+
+pub seen_err : (b : Board) (r : Refusal) → Err r ≡ seen_of b → (sound_board b ≡ false) × (r ≡ Unsound)
+unfolding seen_of
+seen_err b r e = err_look (sound_board b) r (look_of b.size b.chips) e

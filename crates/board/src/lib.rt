@@ -174,14 +174,16 @@ pub fn look_over(board: &Board) -> Result<Look, Refusal>
     ensures { (result ≡ seen_of board.now) × (length board.now.chips ≡ most) }
 {
     let n = board.size as usize;
-    let mut sound = (n >= 1) & (n <= MOST);
+    if (n < 1) | (n > MOST) {
+        return Err(Refusal::Unsound);
+    }
+    let mut sound = true;
     let mut due = false;
     let mut marks = chain::unmarked();
-    for k in 0..n.min(MOST) {
-        let c = board.chips[k];
-        sound = sound & chip::sound(c);
-        due = due | stirred(c);
-        marks = chain::marked(marks, k, c);
+    for (k, c) in board.chips[..n].iter().enumerate() {
+        sound = sound & chip::sound(*c);
+        due = due | stirred(*c);
+        marks = chain::marked(marks, k, *c);
     }
     if !sound {
         return Err(Refusal::Unsound);
