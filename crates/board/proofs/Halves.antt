@@ -30,7 +30,7 @@ use Rattle.chain.specs.declared.Decoder.{Decoder}
 use Rattle.chain.specs.Places.{adjust}
 use Rattle.chain.specs.Chain.{most, asker, asks, holder, side_of, acknowledged, retired}
 use Rattle.chain.specs.Decode.{reti_of}
-use Rattle.chain.specs.Marks.{Marks, marked_of, marks_of, caller_of, holder_of}
+use Rattle.chain.specs.Marks.{Marks, marked_of, marks_of, caller_of}
 use Rattle.chain.proofs.Places.{adjust_length}
 use Rattle.chain.proofs.Flat.{flat_length}
 use Rattle.chain.proofs.Marks.{caller_is, holder_is, marks_set, renewed_is}
@@ -39,7 +39,7 @@ use Rattle.board.specs.declared.Answer.{Answer}
 use Rattle.board.specs.declared.Doing.{Doing}
 use Rattle.board.specs.declared.Doing.TheVariants.{Reset, Fetch, Acknowledge, At}
 use Rattle.board.specs.declared.Look.{Look}
-use Rattle.board.specs.declared.Touch.TheVariants.{Release, Serve, Act}
+use Rattle.board.specs.declared.Touch.TheVariants.{Serve, Act}
 use Rattle.board.specs.declared.Sweep.TheVariants.{Clear, Wake}
 use Rattle.board.specs.declared.Plan.{Plan}
 use Rattle.board.specs.declared.Plan.TheVariants.{Nothing, One, Each}
@@ -90,7 +90,7 @@ module _ (b : Board) (s : sound_board b ≡ true) (len : length b.chips ≡ most
   pub port_there : (place : ℕ) → place < b.size * 2 → port_at b place ≡ port (side_of place) (get_or b.chips (place / 2) blank)
   port_there place h = port_at_lem (there b) place _ (rw places h) ∙ ap (port (side_of place)) (get_or-take b.size b.chips (place / 2) blank (omega arith))
 
-  index : (place : ℕ) → place < b.size * 2 → place / 2 % most ≡ place / 2
+  pub index : (place : ℕ) → place < b.size * 2 → place / 2 % most ≡ place / 2
   index place h = omega (arith, size_fits)
 
   chips_are : (g : Doing) → quick b.decoder g (there b) ++ drop b.size b.chips ≡ (taken b g).chips
@@ -254,7 +254,7 @@ module _ (b : Board) (s : sound_board b ≡ true) (len : length b.chips ≡ most
       ∙ ap (λ (r : ℕ). record { board = b; answer = answer code place v r }) (request_is b.size b.chips b.decoder))
 
   -- ---- the event's four bytes
-  named_is : (x : Bool) (k : ℕ) → named_by (if x then k + 1 else 0) ≡ (if x then Some k else None)
+  pub named_is : (x : Bool) (k : ℕ) → named_by (if x then k + 1 else 0) ≡ (if x then Some k else None)
   named_is true k = let e : k + 1 - 1 ≡ k = omega arith in rw (ne_eqb (k + 1) 0 (λ n. omega (arith, n)), e)
   named_is false k = refl
 

@@ -1,33 +1,27 @@
 -- What is known of the chips beside the board: its marks, its request, and whether a fetch could change it. One record on a sound board
 -- is the step, and keeps all of it.
 -- Assumes nothing.
-use Rattle.std.specs.Prelude.{Option, Some, None, Result, Ok, Err, if◌then◌else◌}
-use mathlib.Core.Path.{◌≡◌, refl, sym, ap, ap₂, subst, ◌∙◌}
+use Rattle.std.specs.Prelude.{Option, Some, None, if◌then◌else◌}
+use mathlib.Core.Path.{◌≡◌, refl, sym, ap, ap₂, ◌∙◌}
 use mathlib.Core.Bool.{Bool, true, false, ◌&&◌, ◌||◌, not}
 use mathlib.Core.List.{List, [], ◌∷◌, map}
-use Prim.Native.Nat.{ℕ, zero, suc, ◌+◌, ◌*◌, ◌-◌, ◌<◌}
+use Prim.Native.Nat.{ℕ, zero, suc, ◌*◌, ◌<◌}
 use native.Mathlib.Omega.{arith}
 use lib.Dec.{ltb}
-use lib.ListN.{length, length-map, length-set, get_or, set, take}
+use lib.ListN.{length, length-map, length-set, set, take}
 use lib.Seq.{take-set-lt, length_front}
 use borrow.Author.Tests.{ltb-true, eq-eqb}
 use Rattle.bits.specs.Bits.{◌is◌}
 use Rattle.bits.proofs.Logic.{by_cases}
-use Rattle.refusals.specs.declared.Refusal.{Refusal}
-use Rattle.refusals.specs.Numbers.{number_of, code_of}
+use Rattle.refusals.specs.Numbers.{code_of}
 use Rattle.chip.specs.declared.Chip.{Chip}
 use Rattle.chip.specs.Chip as chip
-use Rattle.events.specs.declared.Event.{Event}
-use Rattle.events.specs.Act.{event_of}
 use Rattle.chain.specs.Chain.{most, asker, asks, holder}
 use Rattle.chain.specs.Decode.{reti_of}
-use Rattle.chain.specs.Marks.{Marks, marked_of, marks_of, caller_of, holder_of}
+use Rattle.chain.specs.Marks.{Marks, marked_of, marks_of, caller_of}
 use Rattle.chain.proofs.Marks.{caller_is, holder_is, marks_set, renewed_is}
 use Rattle.board.specs.declared.Board.{Board}
-use Rattle.board.specs.declared.Doing.{Doing}
-use Rattle.board.specs.declared.Doing.TheVariants.{Reset, Fetch, Acknowledge, At}
 use Rattle.board.specs.declared.Look.{Look}
-use Rattle.board.specs.declared.Touch.{Touch}
 use Rattle.board.specs.declared.Sweep.{Sweep}
 use Rattle.board.specs.declared.Sweep.TheVariants.{Clear, Wake}
 use Rattle.board.specs.declared.Plan.{Plan}
@@ -35,12 +29,12 @@ use Rattle.board.specs.declared.Plan.TheVariants.{Nothing, One, Each}
 use Rattle.board.specs.declared.Touched.{Touched}
 use Rattle.board.specs.Board.{there, ports, sound_board}
 use Rattle.board.specs.Step.{kind_of, place_of, value_of, last_of, doing_of, Stepped, step_of}
-use Rattle.board.specs.Halves.{stirs, noted_of, early_at, read_of, named_by, freed_of, release_plan, fetch_plan, serve_plan, acknowledge_plan, plan_of, index_of, chip_at, touched_of, sweep_of, freed_chips, swept_of, changed_of, with_swept, carried, listened, advanced_of, stepped}
+use Rattle.board.specs.Halves.{stirs, noted_of, early_at, freed_of, release_plan, fetch_plan, serve_plan, acknowledge_plan, plan_of, index_of, chip_at, touched_of, sweep_of, freed_chips, swept_of, changed_of, with_swept, carried, listened, advanced_of, stepped}
 use Rattle.board.proofs.Tables.{place_there, read_is, by_read}
 use Rattle.board.proofs.There.{take_within}
 use Rattle.board.proofs.Quick.{step_sound}
 use Rattle.board.proofs.Ports.{Still, neither, quiet_chip}
-use Rattle.board.proofs.Halves.{size_fits, places, index, named_is, looked, halves}
+use Rattle.board.proofs.Halves.{places, index, named_is, looked, halves}
 
 -- what is known is right
 pub record Known (b : Board) (l : Look) : Type 0 where
@@ -122,10 +116,7 @@ module _ (b : Board) (l : Look) (k : Known b l) where
 -- ---- one record
 module _ (b : Board) (l : Look) (k : Kept b l) where
   look_is : l ≡ looked b l.due
-  look_is = parts l l.marks l.request refl refl (k.known.marked) (k.known.asked)
-    where
-      parts : (l : Look) (ms : Marks) (r : ℕ) → ms ≡ l.marks → r ≡ l.request → ms ≡ marks_of b.size b.chips → r ≡ caller_of (marks_of b.size b.chips) → l ≡ looked b l.due
-      parts l ms r i j e f = rw (← e, ← f, i, j)
+  look_is = ap₂ (λ (ms : Marks) (r : ℕ). record { marks = ms; due = l.due; request = r }) k.known.marked k.known.asked
 
   place_within : (place : ℕ) → place < b.size * 2 → index_of place < b.size
   place_within place h = omega (arith, index b k.sound k.known.row place h)

@@ -1,6 +1,7 @@
 -- A loop over the chips that are there: what it still has to do before index i, over any lists. `fill g i n ms cs` is ms with g of the
 -- element of cs from index i on, for the indexes below n.
 -- Assumes nothing.
+use Rattle.std.specs.Prelude.{min}
 use mathlib.Core.Path.{◌≡◌, refl, sym, ap, ◌∙◌}
 use mathlib.Core.Bool.{Bool, true, false, ◌&&◌, ◌||◌}
 use mathlib.Core.List.{List, [], ◌∷◌, map}
@@ -8,10 +9,9 @@ use Prim.Native.Nat.{ℕ, zero, suc, ◌+◌, ◌≤◌, ◌<◌}
 use native.Mathlib.Nat.{not-suc-le-zero, le_of_suc-le-suc}
 use native.Mathlib.Omega.{arith}
 use lib.Dec.{ltb}
-use lib.Dec.{min}
 use borrow.Author.Tests.{ltb-true, ltb-false}
 use lib.ListN.{length, length-set, get_or, set, take, drop}
-use lib.Seq.{set-get_or}
+use lib.Seq.{set-get_or, get_or-take}
 use Rattle.bits.proofs.Logic.{by_cases}
 use Rattle.chip.specs.declared.Chip.{Chip}
 use Rattle.chip.specs.Sound.{sound_chip}
@@ -99,14 +99,16 @@ module _ (n : ℕ) (cs : List Chip) where
 
   pub look_turns :
       {s d : Bool} {ms : Marks} {i : ℕ} (x y : Bool) (next : Marks) → Looking s d ms i → i < n → i < length cs
-      → x ≡ sound_chip (get_or cs i blank) → y ≡ stirs (get_or cs i blank) → next ≡ marked_of ms i (get_or cs i blank) → Looking (s && x) (d || y) next (i + 1)
+      → x ≡ sound_chip (get_or (take n cs) i blank) → y ≡ stirs (get_or (take n cs) i blank) → next ≡ marked_of ms i (get_or (take n cs) i blank) → Looking (s && x) (d || y) next (i + 1)
   look_turns {s} {d} {ms} {i} x y next l h k ex ey en =
       let rest = left_turn i n cs blank h k in
       let past = drop (i + 1) (take n cs) in
+      let c = get_or cs i blank in
+      let here : get_or (take n cs) i blank ≡ c = get_or-take n cs i blank h in
       record {
-        sounds = rw (ex) (and_moves s (sound_chip (get_or cs i blank)) (sound_all past) ∙ (rw (rest) at l.sounds));
-        dues = rw (ey) (or_moves d (stirs (get_or cs i blank)) (stirs_some past) ∙ (rw (rest) at l.dues));
-        marked = en ∙ ap (λ (m : Marks). marked_of m i (get_or cs i blank)) l.marked ∙ one_more_marked i cs (get_or cs i blank) k ∙ ap (marks_of (i + 1)) (set-get_or cs i blank);
+        sounds = rw (ex, here) (and_moves s (sound_chip c) (sound_all past) ∙ (rw (rest) at l.sounds));
+        dues = rw (ey, here) (or_moves d (stirs c) (stirs_some past) ∙ (rw (rest) at l.dues));
+        marked = en ∙ ap (marked_of ms i) here ∙ ap (λ (m : Marks). marked_of m i c) l.marked ∙ one_more_marked i cs c k ∙ ap (marks_of (i + 1)) (set-get_or cs i blank);
       }
 
   and_end : (a : Bool) → (a && true) ≡ a
@@ -148,6 +150,6 @@ module _ (f : Chip → Chip) (n : ℕ) (cs : List Chip) where
   sweep_ends {next} {ms} {i} m l e t =
       by_cases (ltb n m)
       (λ h. let k : i ≡ n = omega (arith, t, ltb-true n m h) in
-          (sym (fill_done f i n next cs (omega (arith, k))) ∙ l.fills, l.marked ∙ ap (λ (j : ℕ). marks_of j next) k))
+      (sym (fill_done f i n next cs (omega (arith, k))) ∙ l.fills, l.marked ∙ ap (λ (j : ℕ). marks_of j next) k))
       (λ h. let k : m ≤ i = omega (arith, t, ltb-false n m h) in
-          (sym (fill_all f i n next cs (rw (l.long, e) k)) ∙ l.fills, l.marked ∙ all_marked i n next (rw (l.long, e) k) l.upto))
+      (sym (fill_all f i n next cs (rw (l.long, e) k)) ∙ l.fills, l.marked ∙ all_marked i n next (rw (l.long, e) k) l.upto))

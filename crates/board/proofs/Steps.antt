@@ -1,27 +1,29 @@
 -- The step of any board, sound or not, and the driven lines: what a look at the board, a lent step and the question for driven lines
 -- come to.
 -- Assumes nothing.
-use Rattle.std.specs.Prelude.{Result, Ok, Err}
+use Rattle.std.specs.Prelude.{Ok, Err}
 use mathlib.Core.Path.{◌≡◌, sym, ap, ◌∙◌}
-use mathlib.Core.Bool.{Bool, true, false, ◌&&◌, not}
-use mathlib.Core.List.{List, [], ◌∷◌}
+use mathlib.Core.Bool.{Bool, true, false, ◌||◌, not, true≢false}
+use mathlib.Core.List.{List}
 use Prim.Native.Nat.{ℕ, ◌*◌, ◌/◌, ◌%◌, ◌≤◌, ◌<◌}
 use native.Mathlib.Omega.{arith}
-use lib.Dec.{leb}
-use lib.ListN.{length, get_or, take}
-use borrow.Author.Tests.{eq-eqb, ne_eqb, lt-ltb, le-ltb, le-leb, lt-leb}
+use lib.Dec.{ltb}
+use lib.ListN.{length, get_or, replicate}
+use borrow.Author.Tests.{eq-eqb, ne_eqb, lt-ltb, le-ltb, le-leb, lt-leb, ltb-true, ltb-false}
 use Rattle.bits.specs.Bits.{◌is◌}
+use Rattle.bits.proofs.Logic.{by_cases}
 use Rattle.port.specs.Rules.{levels_now, driven_of}
 use Rattle.port.specs.declared.Port.{Port}
 use Rattle.refusals.specs.declared.Refusal.{Refusal}
-use Rattle.refusals.specs.declared.Refusal.TheVariants.{Place, Unsound}
-use Rattle.chip.specs.Chip.{side, port}
+use Rattle.refusals.specs.declared.Refusal.TheVariants.{Place, Size, Unsound}
+use Rattle.chip.specs.declared.Chip.{Chip}
+use Rattle.chip.specs.Chip.{side, port, chip_fresh}
 use Rattle.chain.specs.Chain.{most}
+use Rattle.chain.specs.Decode.{shut}
 use Rattle.chain.specs.Marks.{Marks, marks_of, caller_of}
 use Rattle.board.specs.declared.Board.{Board}
 use Rattle.board.specs.declared.Look.{Look}
-use Rattle.board.specs.declared.Lines.{Lines}
-use Rattle.board.specs.Board.{there, size_ok, sound_all, sound_board, Told, told_by, lines_of}
+use Rattle.board.specs.Board.{there, size_ok, sound_all, sound_board, fresh_of, made_by, told_by, lines_of}
 use Rattle.board.specs.Step.{place_of, value_of, refusal, answer, Stepped, refused, step_of}
 use Rattle.board.specs.Halves.{stirs_some, seen_of, blank, advanced_of, stepped}
 use Rattle.board.proofs.Ways.{seen_ok, seen_err}
@@ -29,28 +31,45 @@ use Rattle.board.proofs.Ports.{quiet}
 use Rattle.board.proofs.Halves.{size_fits, port_there}
 use Rattle.board.proofs.Kept.{Kept, advances}
 
+-- ---- the size of a board
+pub size_test : (n : ℕ) (t : Bool) → (ltb n 1 || ltb most n) ≡ t → size_ok n ≡ not t
+size_test n t e =
+    by_cases (ltb n 1)
+    (λ h. rw (← e, h, lt-leb 1 n (ltb-true n 1 h)))
+    (λ h. by_cases (ltb most n)
+    (λ k. rw (← e, h, k, lt-leb n most (ltb-true most n k), le-leb 1 n (ltb-false n 1 h)))
+    (λ k. rw (← e, h, k, le-leb n most (ltb-false most n k), le-leb 1 n (ltb-false n 1 h))))
+
+pub size_most : (n : ℕ) → (ltb n 1 || ltb most n) ≡ false → n ≤ most
+size_most n e = by_cases (ltb most n) (λ h. absurd (true≢false (or_true (ltb n 1) (rw h at e)))) (λ h. ltb-false most n h)
+  where
+    or_true : (a : Bool) → (a || true) ≡ false → true ≡ false
+    or_true true e = e
+    or_true false e = e
+
+-- ---- a fresh board
+module _ (n : ℕ) where
+  pub fresh_refused : (ltb n 1 || ltb most n) ≡ true → made_by (Err Size) ≡ fresh_of n
+  unfolding fresh_of
+  fresh_refused e = rw (size_test n true e)
+
+  pub fresh_given : (c : Chip) → (ltb n 1 || ltb most n) ≡ false → c ≡ chip_fresh → made_by (Ok (record { size = n; chips = replicate most c; decoder = shut })) ≡ fresh_of n
+  unfolding fresh_of
+  fresh_given c e f = rw (size_test n false e, f)
+
 -- ---- what a look finds
-pub look_sizeless : (b : Board) → size_ok b.size ≡ false → Err Unsound ≡ seen_of b
+pub look_sizeless : (b : Board) → (ltb b.size 1 || ltb most b.size) ≡ true → Err Unsound ≡ seen_of b
 unfolding seen_of sound_board
-look_sizeless b e = rw e
+look_sizeless b e = rw (size_test b.size true e)
 
-pub look_unsound : (b : Board) (s : Bool) → size_ok b.size ≡ true → s ≡ sound_all (there b) → s ≡ false → Err Unsound ≡ seen_of b
+pub look_unsound : (b : Board) (s : Bool) → (ltb b.size 1 || ltb most b.size) ≡ false → s ≡ sound_all (there b) → s ≡ false → Err Unsound ≡ seen_of b
 unfolding seen_of sound_board
-look_unsound b s e i f = rw (e, ← i, f)
+look_unsound b s e i f = rw (size_test b.size false e, ← i, f)
 
-pub look_sound : (b : Board) (s d : Bool) (ms : Marks) (r : ℕ) → size_ok b.size ≡ true → s ≡ sound_all (there b) → s ≡ true → d ≡ stirs_some (there b) → ms ≡ marks_of b.size b.chips
+pub look_sound : (b : Board) (s d : Bool) (ms : Marks) (r : ℕ) → (ltb b.size 1 || ltb most b.size) ≡ false → s ≡ sound_all (there b) → s ≡ true → d ≡ stirs_some (there b) → ms ≡ marks_of b.size b.chips
     → r ≡ caller_of ms → Ok (record { marks = ms; due = d; request = r }) ≡ seen_of b
 unfolding seen_of sound_board
-look_sound b s d ms r e i f j k q = rw (e, ← i, f, q, j, k)
-
-pub size_none : (n : ℕ) → n < 1 → size_ok n ≡ false
-size_none n h = rw (lt-leb n 1 h)
-
-pub size_many : (n : ℕ) → most < n → size_ok n ≡ false
-size_many n h = rw (le-leb 1 n (omega arith), lt-leb n most h)
-
-pub size_some : (n : ℕ) → 1 ≤ n → n ≤ most → size_ok n ≡ true
-size_some n g h = rw (le-leb 1 n g, le-leb n most h)
+look_sound b s d ms r e i f j k q = rw (size_test b.size false e, ← i, f, q, j, k)
 
 -- ---- the ways out of a step of any board
 module _ (b : Board) (e : List ℕ) where

@@ -2,7 +2,7 @@
 -- what is known of the chips; and what then happens to one chip or to all. Nothing here need be believed: `advances` in proofs/ says that
 -- on a sound board the two together are `step_of`.
 -- Assumes nothing.
-use Rattle.std.specs.Prelude.{Bool, true, false, ◌&&◌, ◌||◌, not, List, [], ◌∷◌, map, ℕ, ◌-◌, ◌/◌, ◌%◌, ltb, get_or, set, take, Option, Some, None, Result, Ok, Err, if◌then◌else◌}
+use Rattle.std.specs.Prelude.{Bool, false, ◌&&◌, ◌||◌, not, List, [], ◌∷◌, map, ℕ, ◌-◌, ◌/◌, ◌%◌, ltb, get_or, set, take, Option, Some, None, Result, Ok, Err, if◌then◌else◌}
 use Rattle.bits.specs.Bits.{◌is◌}
 use Rattle.port.specs.declared.Port.{Port}
 use Rattle.refusals.specs.declared.Refusal.{Refusal}
@@ -11,7 +11,6 @@ use Rattle.refusals.specs.Numbers.{number_of}
 use Rattle.chip.specs.declared.Chip.{Chip}
 use Rattle.chip.specs.Chip.{port, serve, release, settle}
 use Rattle.chip.specs.Chip as chip
-use Rattle.events.specs.declared.Event.{Event}
 use Rattle.events.specs.declared.Acted.{Acted}
 use Rattle.events.specs.Act.{Acting, outcome_of, acting_from}
 use Rattle.chain.specs.declared.Decoder.{Decoder}

@@ -34,6 +34,7 @@ pub struct Answer {
 }
 
 impl From<Answer> for [u8; 4] {
+    #[tactic(auto, unfolding(crate::specs::Step::bytes_of))]
     fn from(a: Answer) -> [u8; 4]
         ensures { result ≡ bytes_of a }
     {
@@ -101,6 +102,7 @@ pub struct Touched {
 
 impl Touched {
     // What came of an event of kinds 3 to 7 at the chip `c`.
+    #[tactic(auto, unfolding(crate::specs::Halves::acted_of))]
     pub fn acted(c: Chip, place: u8, value: u8, outcome: Result<Acted, Refusal>) -> Touched
         ensures { result ≡ acted_of c place value outcome }
     {
@@ -127,6 +129,7 @@ impl Touched {
 }
 
 // A fresh board of `size` chips.
+#[tactic(auto, using(crate::proofs::Steps::fresh_refused, crate::proofs::Steps::fresh_given))]
 pub fn fresh(size: usize) -> Result<Board, Refusal>
     ensures { made_by result ≡ fresh_of size }
 {
@@ -173,6 +176,7 @@ impl Look {
 pub fn look_over(board: &Board) -> Result<Look, Refusal>
     ensures { (result ≡ seen_of board.now) × (length board.now.chips ≡ most) }
 {
+    let chips = &board.chips;
     let n = board.size as usize;
     if (n < 1) | (n > MOST) {
         return Err(Refusal::Unsound);
@@ -180,10 +184,11 @@ pub fn look_over(board: &Board) -> Result<Look, Refusal>
     let mut sound = true;
     let mut due = false;
     let mut marks = chain::unmarked();
-    for (k, c) in board.chips[..n].iter().enumerate() {
+    for (k, c) in chips[..n].iter().enumerate() {
         sound = sound & chip::sound(*c);
         due = due | stirred(*c);
-        marks = chain::marked(marks, k, *c);
+        let more = chain::marked(marks, k, *c);
+        marks = more;
     }
     if !sound {
         return Err(Refusal::Unsound);
@@ -196,6 +201,7 @@ pub fn look_over(board: &Board) -> Result<Look, Refusal>
 }
 
 // The lines driven at a place.
+#[tactic(auto, using(crate::proofs::Steps::lines_unsound, crate::proofs::Steps::lines_beyond, crate::proofs::Steps::in_array, crate::proofs::Steps::lines_there))]
 pub fn driven_lines(board: &Board, place: usize) -> Result<Lines, Refusal>
     ensures { told_by result ≡ lines_of board.now place }
 {
