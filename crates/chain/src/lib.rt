@@ -23,7 +23,7 @@ pub struct Decoder {
 
 impl Decoder {
     // After one more fetched byte.
-#[tactic(auto, unfolding(crate::specs::Decode::next_of))]
+    #[tactic(auto, unfolding(crate::specs::Decode::next_of))]
     pub fn next(self, byte: u8) -> Decoder
         ensures { result ≡ next_of self byte }
     {

@@ -109,7 +109,11 @@ fn strobe_line(c: Chip, on_b: bool, level: bool) -> Chip
     ensures { result ≡ changed (side on_b) (Strobe level) c }
 {
     let two = c.a.mode == 2;
-    chip::on(c, on_b, |p| port::strobe(p, two | (p.mode == 0) | (p.mode == 1), level))
+    chip::on(
+        c,
+        on_b,
+        |p| port::strobe(p, two | (p.mode == 0) | (p.mode == 1), level),
+    )
 }
 
 // The outside levels of a port's lines.
@@ -120,7 +124,6 @@ fn outside_lines(c: Chip, on_b: bool, value: u8) -> Chip
 }
 
 // One event at one port of the chip, and the settling after it. A refused word leaves at once.
-
 #[tactic(auto, using(crate::proofs::Ways::act_control, crate::proofs::Ways::act_refused), unfolding(crate::specs::Act::outcome_of))]
 pub fn act(c: Chip, on_b: bool, event: Event) -> Result<Acted, Refusal>
     ensures { result ≡ outcome_of (side on_b) event c }

@@ -136,22 +136,19 @@ pub fn release(p: Port) -> Port
     }
 }
 
-// A reset.
+// A reset leaves a fresh port but for what it keeps.
 pub fn reset(p: Port) -> Port
     ensures { result ≡ cleared p }
 {
     Port {
-        mode: 1,
-        ready: false,
-        mask: 255,
-        out: 0,
-        asked: false,
-        live: false,
-        waiting: false,
-        service: false,
-        awaiting: 0,
-        matched: false,
-        ..p
+        input: p.input,
+        lines: p.lines,
+        strobe: p.strobe,
+        vector: p.vector,
+        select: p.select,
+        all: p.all,
+        high: p.high,
+        ..fresh()
     }
 }
 

@@ -34,16 +34,6 @@ fn follow(c: Chip) -> Chip
     }
 }
 
-// The level of a strobe that an event may move.
-fn level_at(moved: bool, level: bool, old: bool) -> bool
-    ensures { result ≡ (if moved then level else old) }
-{
-    if moved {
-        return level;
-    }
-    old
-}
-
 // A strobe goes to a level: registers may follow, and no match changes. The other strobe stays at its level, which is no edge.
 #[tactic(auto, using(crate::proofs::Sound::strobe_is))]
 pub fn strobe(c: Chip, on_b: bool, level: bool) -> Chip
@@ -52,8 +42,8 @@ pub fn strobe(c: Chip, on_b: bool, level: bool) -> Chip
     let a = c.a;
     let b = c.b;
     let two = a.mode == 2;
-    let x = level_at(on_b, a.strobe, level);
-    let y = level_at(on_b, level, b.strobe);
+    let x = if on_b { a.strobe } else { level };
+    let y = if on_b { level } else { b.strobe };
     let p = port::strobe(a, two | (a.mode == 0) | (a.mode == 1), x);
     let q = port::strobe(b, two | (b.mode == 0) | (b.mode == 1), y);
     follow(Chip { a: p, b: q })
@@ -66,7 +56,11 @@ pub fn lines(c: Chip, on_b: bool, value: u8) -> Chip
 {
     let follows = chip::follows(c, on_b);
     let watched = !(on_b & (c.a.mode == 2));
-    chip::on(c, on_b, |p| rest::settle(port::set_lines(p, value), follows, watched))
+    chip::on(
+        c,
+        on_b,
+        |p| rest::settle(port::set_lines(p, value), follows, watched),
+    )
 }
 
 // A data write leaves nothing to settle.
