@@ -1,7 +1,11 @@
 -- The lines of the changed values, one value after the other.
 -- Assumes nothing.
 use Rattle.std.specs.Prelude.{if◌then◌else◌}
-use Rattle.std.proofs.Common.{◌≡◌, ℕ, suc, ◌+◌, ◌*◌, ◌<◌, ◌≤◌, true, false, List, [], ◌∷◌, ◌++◌, length, get_or, drop, refl, add-one, arith, length-append, drop_of_length-le, drop-cons, eq-eqb, ne_eqb}
+use Rattle.std.proofs.Common.{◌≡◌, ℕ, suc, ◌+◌, ◌*◌, ◌<◌, ◌≤◌, true, false, List, [], ◌∷◌, ◌++◌, length, get_or, drop, refl, ◌∙◌, add-one, arith, length-append, drop_of_length-le, drop-cons, eq-eqb, ne_eqb}
+use mathlib.Core.Logic.{⊎_elim}
+use lib.Dec.{eqb}
+use lib.Pointwise.{pointwise}
+use Rattle.std.proofs.lemmas.Bool.Decides.{eqb_tells}
 use Rattle.bits.specs.Bits.{◌is◌}
 use Rattle.bits.proofs.Tests.{if_on, if_off}
 use Rattle.buffers.specs.Splice.{if_room, Wrote}
@@ -16,14 +20,29 @@ three : (character value : ℕ) → length (value_line character value) ≡ 3
 unfolding value_line
 three character value = refl
 
--- ---- the text of a time, by whether a value has changed
-pub no_frame : (time : ℕ) (shown values : List ℕ) → (length (changed_lines identifier shown values) is 0) ≡ true → later_frame time shown values ≡ []
-unfolding later_frame
-no_frame time shown values e = if_on _ _ _ e
+-- no line, where each value is as it was shown, and only there
+pub same_lines : (character : ℕ) (shown values : List ℕ) → length shown ≡ length values → (length (changed_lines character shown values) is 0) ≡ pointwise eqb values shown
+unfolding changed_lines
+same_lines character [] [] e = refl
+same_lines character [] (v ∷ vs) e = absurd (omega (arith, e))
+same_lines character (s ∷ ss) [] e = absurd (omega (arith, e))
+same_lines character (s ∷ ss) (v ∷ vs) e =
+    let line = value_line character v in
+    let more = changed_lines (suc character) ss vs in
+    ⊎_elim
+    (λ same. rw same.0 (same_lines (suc character) ss vs (omega (arith, e))))
+    (λ other. rw other.0 (ne_eqb (length (line ++ more)) 0 (omega (arith, length-append line more, three character v))))
+    (eqb_tells v s)
 
-pub frame : (time : ℕ) (shown values : List ℕ) → (length (changed_lines identifier shown values) is 0) ≡ false → later_frame time shown values ≡ time_line time ++ changed_lines identifier shown values
+-- ---- the text of a time, by whether a value has changed
+pub no_frame : (time : ℕ) (shown values : List ℕ) → length shown ≡ length values → pointwise eqb values shown ≡ true → later_frame time shown values ≡ []
 unfolding later_frame
-frame time shown values e = if_off _ _ _ e
+no_frame time shown values long e = if_on _ _ _ (same_lines identifier shown values long ∙ e)
+
+pub frame : (time : ℕ) (shown values : List ℕ) → length shown ≡ length values → pointwise eqb values shown ≡ false
+    → later_frame time shown values ≡ time_line time ++ changed_lines identifier shown values
+unfolding later_frame
+frame time shown values long e = if_off _ _ _ (same_lines identifier shown values long ∙ e)
 
 module _ (shown values : List ℕ) (s : length shown ≡ 9) (v : length values ≡ 9) where
   next_line : (i : ℕ) → i < 9 → lines_from i shown values ≡ (if get_or values i 0 is get_or shown i 0 then [] else value_line (33 + i) (get_or values i 0)) ++ lines_from (i + 1) shown values
@@ -44,38 +63,30 @@ module _ (shown values : List ℕ) (s : length shown ≡ 9) (v : length values �
   unfolding changed_lines
   no_lines i h = let all : length shown ≤ i = omega arith in rw (drop_of_length-le shown all)
 
-  -- a value that is not as it was shown has a line
-  pub some_lines : (i : ℕ) → i < 9 → (get_or values i 0 ≡ get_or shown i 0 → ⊥) → (length (lines_from i shown values) is 0) ≡ false
-  some_lines i h e =
-      let line = value_line (33 + i) (get_or values i 0) in
-      let more = lines_from (i + 1) shown values in
-      rw (changed i h e) (ne_eqb (length (line ++ more)) 0 (omega (arith, length-append line more, three (33 + i) (get_or values i 0))))
-
   -- ---- where the writer of the changed values stands before value i
-  pub record Changing (old : List ℕ) (at : ℕ) (out : List ℕ) (next character i : ℕ) : Type 0 where
+  pub record Changing (old : List ℕ) (at : ℕ) (out : List ℕ) (next i : ℕ) : Type 0 where
     pub within : i ≤ 9
-    pub named : character ≡ 33 + i
     pub room : next ≤ at + 3 * i
     pub rest : Writing old at (changed_lines 33 shown values) out next (lines_from i shown values)
 
   -- the value is as it was shown
-  pub pass : {old out : List ℕ} {at next character i : ℕ} → i < 9 → Changing old at out next character i → get_or values i 0 ≡ get_or shown i 0
-      → Changing old at out next (character + 1) (i + 1)
-  pass {old} {out} {at} {next} {character} {i} h w e =
-      record { within = omega arith; named = omega (arith, w.named); room = omega (arith, w.room); rest = rw (← unchanged i h e) w.rest }
+  pub pass : {old out : List ℕ} {at next i : ℕ} → i < 9 → Changing old at out next i → get_or values i 0 ≡ get_or shown i 0
+      → Changing old at out next (i + 1)
+  pass {old} {out} {at} {next} {i} h w e =
+      record { within = omega arith; room = omega (arith, w.room); rest = rw (← unchanged i h e) w.rest }
 
   -- its line was written
-  pub put : {old out m : List ℕ} {at next n character i : ℕ} → i < 9 → at + 27 ≤ length old → Changing old at out next character i → (get_or values i 0 ≡ get_or shown i 0 → ⊥)
-      → Wrote out next (if_room out next 3 (value_line character (get_or values i 0))) m n → Changing old at m n (character + 1) (i + 1)
-  put {old} {out} {m} {at} {next} {n} {character} {i} h fits w e wrote =
+  pub put : {old out m : List ℕ} {at next n i : ℕ} → i < 9 → at + 27 ≤ length old → Changing old at out next i → (get_or values i 0 ≡ get_or shown i 0 → ⊥)
+      → Wrote out next (if_room out next 3 (value_line (33 + i) (get_or values i 0))) m n → Changing old at m n (i + 1)
+  put {old} {out} {m} {at} {next} {n} {i} h fits w e wrote =
       let line = wrote_all 3 (omega (arith, w.rest.long, w.room)) wrote in
+      let end : n ≤ next + 3 = omega (arith, line.ends, three (33 + i) (get_or values i 0)) in
       record {
         within = omega arith;
-        named = omega (arith, w.named);
-        room = omega (arith, line.ends, three character (get_or values i 0), w.room);
-        rest = writing_part w.rest (changed i h e) (rw w.named at line) (omega (arith, line.ends, three character (get_or values i 0), w.room));
+        room = omega (arith, w.room);
+        rest = writing_part w.rest (changed i h e) line (omega (arith, w.rest.long, w.room));
       }
 
-  pub done : {old out : List ℕ} {at next character i : ℕ} → Changing old at out next character i → 9 ≤ i
+  pub done : {old out : List ℕ} {at next i : ℕ} → Changing old at out next i → 9 ≤ i
       → (Wrote old at (changed_lines 33 shown values) out next) × (next ≤ at + 27)
-  done {old} {out} {at} {next} {character} {i} w h = (writing_done w.rest (no_lines i h), omega (arith, w.room, w.within))
+  done {old} {out} {at} {next} {i} w h = (writing_done w.rest (no_lines i h), omega (arith, w.room, w.within))

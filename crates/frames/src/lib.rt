@@ -11,20 +11,12 @@ ghost use Rattle.frames.specs.Frames.{identifier, header, time_line, value_line,
 use chain::MOST;
 use chip::Chip;
 
-// A byte as a part of a stamp.
-fn wide(x: u8) -> u16
-    ensures { (result ≡ x) × (result < 256) }
-{
-    x as u16
-}
-
 // Stamp i, low byte first.
 fn stamp(stamps: &[u8], i: usize) -> u16
     requires { 2 * i + 2 ≤ length stamps.now }
     ensures { result ≡ stamp_at stamps.now i }
 {
-    let at = 2 * i;
-    wide(stamps[at]) + 256 * wide(stamps[at + 1])
+    u16::from_le_bytes([stamps[2 * i], stamps[2 * i + 1]])
 }
 
 // How long after record i the next one comes, in microseconds: the wrapping difference of their stamps. Behind the last record it is
@@ -41,7 +33,7 @@ pub fn gap_after(stamps: &[u8], i: usize) -> u64
     }
     let here = stamp(stamps, i);
     let next = stamp(stamps, i + 1);
-    std::num::wrapping_sub_u16(next, here) as u64
+    u64::from(next.wrapping_sub(here))
 }
 
 // The value of a Ready line of chip k, which may be beyond the board's size.
@@ -55,10 +47,7 @@ fn shows(size: u8, k: u8, ready: bool) -> u8
 pub fn values(size: u8, chips: [Chip; MOST], request: u8) -> [u8; 9]
     ensures { result ≡ values_of size chips request }
 {
-    let first = chips[0];
-    let second = chips[1];
-    let third = chips[2];
-    let fourth = chips[3];
+    let [first, second, third, fourth] = chips;
     [
         (request != 0) as u8,
         shows(size, 0, first.a.ready),
@@ -83,20 +72,6 @@ pub fn put_header(out: &mut [u8]) -> usize
     )
 }
 
-// Whether every value is as it was shown.
-fn same(shown: [u8; 9], values: [u8; 9]) -> bool
-    ensures { result ≡ length (changed_lines identifier shown values) is 0 }
-{
-    let mut i: usize = 0;
-    while i < 9 {
-        if values[i] != shown[i] {
-            return false;
-        }
-        i += 1;
-    }
-    true
-}
-
 // A value as text.
 fn digit(value: u8) -> u8
     ensures { result ≡ (if value is 0 then 48 else 49) }
@@ -119,15 +94,10 @@ fn put_changes(out: &mut [u8], at: usize, shown: [u8; 9], values: [u8; 9]) -> us
     ensures upper_bound { result ≤ at + 27 }
 {
     let mut next = at;
-    let mut character = b'!';
-    let mut i: usize = 0;
-    while i < 9 {
-        let value = values[i];
-        if value != shown[i] {
-            next = put_value(out, next, character, value);
+    for (i, value) in values.iter().enumerate() {
+        if *value != shown[i] {
+            next = put_value(out, next, b'!' + i as u8, *value);
         }
-        character += 1;
-        i += 1;
     }
     next
 }
@@ -153,7 +123,7 @@ pub fn put_frame(out: &mut [u8], time: u64, shown: [u8; 9], values: [u8; 9]) -> 
     if out.len() < 49 {
         return 0;
     }
-    if same(shown, values) {
+    if values == shown {
         return 0;
     }
     let next = put_time(out, time);
