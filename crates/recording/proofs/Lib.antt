@@ -1,6 +1,5 @@
 pub mod Shots
 pub mod Bounds
-pub mod Advances
 pub mod Fronts
 pub mod Scans
 pub mod Ways

@@ -1,2 +1,1 @@
 pub mod Wave
-pub mod Fast

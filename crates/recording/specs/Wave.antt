@@ -1,17 +1,18 @@
 -- Document 02, Ask 1: the export of a recording, from its records and stamps to the text.
 -- Assumes nothing.
-use Rattle.std.specs.Prelude.{Bool, not, List, [], ◌∷◌, ◌++◌, ℕ, ◌*◌, ◌/◌, ◌%◌, ltb, length, if◌then◌else◌}
+use Rattle.std.specs.Prelude.{Bool, not, List, [], ◌∷◌, ◌++◌, ℕ, ◌*◌, ◌/◌, ◌%◌, ltb, length, Result, Ok, Err, if◌then◌else◌}
 use Rattle.bits.specs.Bits.{◌is◌}
 use Rattle.buffers.specs.Splice.{splice}
+use Rattle.refusals.specs.declared.Refusal.{Refusal}
+use Rattle.refusals.specs.declared.Refusal.TheVariants.{Length, Records, Stamps, Text}
+use Rattle.refusals.specs.Numbers.{number_of}
 use Rattle.board.specs.declared.Board.{Board}
-use Rattle.board.specs.declared.Stepped.{Stepped}
 use Rattle.board.specs.Board.{sound_board}
-use Rattle.board.specs.Step.{Line, line, verdict, step_of}
+use Rattle.board.specs.Step.{Line, line, verdict, Stepped, step_of}
 use Rattle.records.specs.Records.{records, steps_of}
 use Rattle.frames.specs.Stamps.{stamps_of, times_of}
 use Rattle.frames.specs.Values.{values_of}
 use Rattle.frames.specs.Frames.{header, first_frame, later_frame}
-use Rattle.recording.specs.declared.Exported.{Exported}
 
 -- ---- what there is to show: the time of each record, and the values after it
 pub record Shot : Type 0 where
@@ -65,8 +66,22 @@ refusal_of sound events stamps text room = verdict (wave_lines sound events stam
 abbrev pub wave_refusal : Board → List ℕ → List ℕ → ℕ → ℕ
 wave_refusal b events stamps room = refusal_of (sound_board b) (length events) (length stamps) (length (wave_text b events stamps)) room
 
+-- the same of a sound board, in the code's types: nothing, or the first refusal
+unfoldable pub checked_of : ℕ → ℕ → ℕ → ℕ → Result (Unit {0}) Refusal
+checked_of events stamps text room =
+    if not (events % 4 is 0) then Err Length else
+    if ltb 16384 (events / 4) then Err Records else
+    if not (stamps is 2 * (events / 4)) then Err Stamps else
+    if ltb room text then Err Text else
+    Ok tt
+
 -- "nothing is written, the length is 0 and the board is unchanged"; "An accepted export leaves the board as the run would, reports the
 -- text's length and leaves the buffer's other bytes". `old`: the buffer before
+pub record Exported : Type 0 where
+  pub code : ℕ
+  pub length : ℕ
+  pub board : Board
+
 unfoldable pub exported_of : Board → List ℕ → List ℕ → ℕ → Exported
 exported_of b events stamps room =
     if wave_refusal b events stamps room is 0
@@ -76,3 +91,8 @@ exported_of b events stamps room =
 unfoldable pub page_of : Board → List ℕ → List ℕ → List ℕ → List ℕ
 page_of b events stamps old =
     if wave_refusal b events stamps (length old) is 0 then splice old 0 (wave_text b events stamps) else old
+
+-- the same of what an export answers, with the board after it
+abbrev pub exported_by : Board → Result ℕ Refusal → Exported
+exported_by b (Ok n) = record { code = 0; length = n; board = b }
+exported_by b (Err r) = record { code = number_of r; length = 0; board = b }
