@@ -12,6 +12,7 @@ use events::Event;
 use refusals::Refusal;
 
 // What an event of four bytes does, or the first refusal that needs no look at a port.
+#[tactic(auto, using(crate::proofs::Ways::kind_refused, crate::proofs::Ways::place_refused, crate::proofs::Ways::value_refused, crate::proofs::Ways::reads_reset, crate::proofs::Ways::reads_fetch, crate::proofs::Ways::reads_acknowledge, crate::proofs::Ways::reads_place))]
 pub fn read_event(size: u8, event: [u8; 4]) -> Result<Doing, Refusal>
     ensures { result ≡ read_of size event }
 {
@@ -43,11 +44,12 @@ pub fn listen(decoder: Decoder, doing: Doing) -> Decoder
     match doing {
         Doing::Fetch(byte) => decoder.next(byte),
         Doing::At(_, _) => decoder,
-        _ => Decoder { prefix: 0 },
+        Doing::Reset | Doing::Acknowledge => Decoder { prefix: 0 },
     }
 }
 
 // The place that a fetch releases: the nearest under service, where the byte ends a RETI.
+#[tactic(auto, using(crate::proofs::Ways::holder_small, crate::proofs::Ways::frees_nobody, crate::proofs::Ways::frees_none))]
 fn freed(decoder: Decoder, marks: Marks, byte: u8) -> Option<u8>
     ensures { result ≡ freed_of decoder marks byte }
 {
@@ -59,6 +61,7 @@ fn freed(decoder: Decoder, marks: Marks, byte: u8) -> Option<u8>
 }
 
 // An opcode fetch: of every chip where a port could become live; else at most of the port that a RETI releases.
+#[tactic(auto, unfolding(board::specs::Halves::fetch_plan))]
 fn plan_fetch(decoder: Decoder, look: Look, byte: u8) -> Plan
     ensures { result ≡ fetch_plan decoder look byte }
 {
@@ -84,6 +87,7 @@ fn plan_fetch(decoder: Decoder, look: Look, byte: u8) -> Plan
 }
 
 // An interrupt acknowledge: the port that the request names answers, or nobody.
+#[tactic(auto, unfolding(board::specs::Halves::acknowledge_plan))]
 fn plan_acknowledge(request: u8) -> Plan
     ensures { result ≡ acknowledge_plan request }
 {

@@ -10,6 +10,7 @@ use chain::MOST;
 use chip::Chip;
 
 // What happens to the one chip that the event concerns.
+#[tactic(auto, unfolding(board::specs::Halves::touched_of))]
 fn touch(c: Chip, place: u8, what: Touch, value: u8) -> Touched
     ensures { result ≡ touched_of c place what value }
 {
@@ -35,6 +36,7 @@ fn touch(c: Chip, place: u8, what: Touch, value: u8) -> Touched
 }
 
 // The place's chip is changed: it is put back, what is known follows, and the answer tells the request.
+#[tactic(auto, unfolding(board::specs::Halves::changed_of))]
 pub fn put(board: &mut Board, look: &mut Look, place: u8, t: Touched) -> Answer
     ensures { advanced board.new look.new result ≡ changed_of board.old look.old place t }
 {
@@ -87,7 +89,8 @@ fn sweep_each(
     for k in 0..MOST.min(board.size as usize) {
         let d = sweep_chip(sweep, old[k]);
         chips[k] = d;
-        marks = chain::marked(marks, k, d);
+        let more = chain::marked(marks, k, d);
+        marks = more;
     }
     board.chips = chips;
     let request = chain::caller(marks);
@@ -105,6 +108,7 @@ fn sweep_each(
 }
 
 // The second half of a step.
+#[tactic(auto, unfolding(board::specs::Halves::carried))]
 fn carry(board: &mut Board, look: &mut Look, plan: Plan, value: u8) -> Answer
     ensures { advanced board.new look.new result ≡ carried board.old look.old plan value }
 {
@@ -119,6 +123,7 @@ fn carry(board: &mut Board, look: &mut Look, plan: Plan, value: u8) -> Answer
 }
 
 // One event of four bytes on a sound board: the board and what is known of it are moved on.
+#[tactic(auto, unfolding(board::specs::Halves::advanced_of))]
 pub fn advance(board: &mut Board, look: &mut Look, event: [u8; 4]) -> Answer
     ensures { advanced board.new look.new result ≡ advanced_of board.old look.old event }
 {
