@@ -10,11 +10,13 @@ use lib.ListN.{length}
 use borrow.Author.Tests.{eq-eqb, ne_eqb}
 use Rattle.bits.specs.Bits.{◌is◌}
 use Rattle.bits.proofs.Logic.{by_cases}
-use Rattle.events.specs.Events.{control, write, read, strobe, outside}
+use Rattle.events.specs.declared.Event.TheVariants.{Control, Write, Read, Strobe, Outside}
 use Rattle.chain.specs.Chain.{asker, asks}
 use Rattle.board.specs.declared.Board.{Board}
 use Rattle.board.specs.Board.{ports, port_at, sound_board, request_of}
-use Rattle.board.specs.Step.{refusal, Doing, reset, fetch, acknowledge, at, doing_of, answer, answered, accepted, refused, step_of}
+use Rattle.board.specs.declared.Doing.{Doing}
+use Rattle.board.specs.declared.Doing.TheVariants.{Reset, Fetch, Acknowledge, At}
+use Rattle.board.specs.Step.{refusal, doing_of, answer, answered, accepted, refused, step_of}
 use Rattle.board.proofs.Quick.{step_sound}
 use Rattle.demands.specs.Words as words
 use Rattle.demands.specs.Asks.{Names, WhoIsAsking}
@@ -25,14 +27,14 @@ by_either : (t : Bool) (a c p d v q r : ℕ) → (if t then answer a p v r else 
 by_either t a c p d v q r = by_cases t (λ e. rw e) (λ e. rw e)
 
 carries : (b : Board) (g : Doing) (v r : ℕ) → (answered b g v r).request ≡ r
-carries b reset v r = refl
-carries b (fetch byte) v r = refl
-carries b acknowledge v r = by_either (asks (ports b)) 2 3 (asker (ports b)) 0 (port_at b (asker (ports b))).vector 255 r
-carries b (at place (control w)) v r = refl
-carries b (at place (write w)) v r = refl
-carries b (at place read) v r = refl
-carries b (at place (strobe level)) v r = refl
-carries b (at place (outside w)) v r = refl
+carries b Reset v r = refl
+carries b (Fetch byte) v r = refl
+carries b Acknowledge v r = by_either (asks (ports b)) 2 3 (asker (ports b)) 0 (port_at b (asker (ports b))).vector 255 r
+carries b (At place (Control w)) v r = refl
+carries b (At place (Write w)) v r = refl
+carries b (At place Read) v r = refl
+carries b (At place (Strobe level)) v r = refl
+carries b (At place (Outside w)) v r = refl
 
 of_the_board : (b : Board) (e : List ℕ) → sound_board b ≡ true → length e ≡ 4 → (step_of b e).answer.request ≡ request_of (step_of b e).board
 unfolding step_of accepted refused
@@ -46,7 +48,7 @@ module _ (b : Board) (s : sound_board b ≡ true) where
   unfolding request_of
   whom = rw (turn_is b) (by_cases (asks (ports b)) (λ t. rw (t, nearest_is b t)) (λ t. rw t))
 
-  would_answer : answered b acknowledge 0 0 ≡ (if request_of b is 0 then answer 3 0 255 0 else answer 2 (request_of b - 1) (port_at b (request_of b - 1)).vector 0)
+  would_answer : answered b Acknowledge 0 0 ≡ (if request_of b is 0 then answer 3 0 255 0 else answer 2 (request_of b - 1) (port_at b (request_of b - 1)).vector 0)
   unfolding request_of
   would_answer =
       let n : asker (ports b) + 1 - 1 ≡ asker (ports b) = omega arith in

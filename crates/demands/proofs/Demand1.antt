@@ -15,10 +15,9 @@ use Rattle.buffers.proofs.Splices.{length_splice}
 use Rattle.board.specs.declared.Board.{Board}
 use Rattle.board.specs.Board.{sound_board}
 use Rattle.board.specs.Step.{Line, lines, refusal, refused, step_of}
-use Rattle.run.specs.declared.Ran.{Ran}
 use Rattle.records.specs.Records.{records, steps_of, answers_of}
 use Rattle.records.proofs.Whole.{records_length, answers_length}
-use Rattle.run.specs.Run.{run_lines, refusal_of, run_refusal, ran_of, buffer_of}
+use Rattle.run.specs.Run.{Ran, run_lines, refusal_of, run_refusal, ran_of, buffer_of}
 use Rattle.demands.specs.Words.{step_codes, run_codes, listed, decides}
 use Rattle.demands.specs.Demands.{Answered, FourBytes, NotFourBytes, AnsweredRun, EveryRun}
 use Rattle.demands.proofs.Refusals.{verdict_each, verdict_decides, verdict_none, none_drop, step_refused, accepted_code, refused_code, refused_each}

@@ -23,11 +23,13 @@ use Rattle.chain.proofs.Places.{adjust_set, adjust_beyond}
 use Rattle.chain.proofs.Flat.{flat_length, flat_at}
 use Rattle.board.specs.declared.Board.{Board}
 use Rattle.board.specs.Board.{there, ports, port_at, sound_all, size_ok, sound_board, blank_board, fresh_of, request_of}
-use Rattle.board.specs.Step.{value_of, refusal, doing_of, taken, accepted, refused, step_of}
+use Rattle.board.specs.Step.{bytes_of, value_of, refusal, doing_of, taken, accepted, refused, step_of}
+use Rattle.board.specs.declared.Doing.{Doing}
+use Rattle.board.specs.declared.Doing.TheVariants.{Fetch, Acknowledge}
 use Rattle.board.specs.Step as step
 use Rattle.board.proofs.There.{after_length, there_taken}
 use Rattle.board.proofs.Quick.{after_quick, parts, step_sound}
-use Rattle.records.specs.Records.{bytes_of, steps_of}
+use Rattle.records.specs.Records.{steps_of}
 use Rattle.demands.specs.Observer.{Kept, nothing, decoded}
 use Rattle.demands.specs.Words.{acknowledge, fetch, under_service, nearest, turn, answering, remembered, found, kept, bytes, all_bytes}
 use Rattle.demands.specs.Demands.{Listed, Demand3, FromFresh, FromSound, FromAny, NoHistory}
@@ -59,10 +61,10 @@ unfolding refusal
 fetch_accepted b byte h = step_accepted b (fetch byte) refl (rw (h, whole_place b h))
 
 -- ---- the board after an acknowledge, and the answer
-ports_acknowledged : (b : Board) → sound_board b ≡ true → ports (taken b step.acknowledge) ≡ adjust served (asker (ports b)) (ports b)
+ports_acknowledged : (b : Board) → sound_board b ≡ true → ports (taken b Acknowledge) ≡ adjust served (asker (ports b)) (ports b)
 unfolding acknowledged
 ports_acknowledged b h =
-    ap flat (there_taken b step.acknowledge ∙ after_quick b.decoder step.acknowledge (there b) (parts b h).1)
+    ap flat (there_taken b Acknowledge ∙ after_quick b.decoder Acknowledge (there b) (parts b h).1)
     ∙ flat_at served (asker (ports b)) (there b)
 
 pub nearest_is : (b : Board) → asks (ports b) ≡ true → asker (ports b) ≡ nearest b
@@ -77,12 +79,12 @@ served_is b = by_cases (asks (ports b))
     (λ e. rw (e, nearest_is b e) (adjust_set served (nearest b) (ports b) fresh_port))
     (λ e. rw (e, asks_no (ports b) e, adjust_beyond))
 
-answer_is : (b : Board) → bytes_of (step.answered b step.acknowledge 0 0) ≡ (if asks (ports b) then 2 ∷ nearest b ∷ (port_at b (nearest b)).vector ∷ 0 ∷ [] else 3 ∷ 0 ∷ 255 ∷ 0 ∷ [])
+answer_is : (b : Board) → bytes_of (step.answered b Acknowledge 0 0) ≡ (if asks (ports b) then 2 ∷ nearest b ∷ (port_at b (nearest b)).vector ∷ 0 ∷ [] else 3 ∷ 0 ∷ 255 ∷ 0 ∷ [])
 unfolding bytes_of
 answer_is b = by_cases (asks (ports b)) (λ e. rw (e, nearest_is b e)) (λ e. rw e)
 
 module _ (b : Board) (h : sound_board b ≡ true) where
-  pub no_request : request_of (taken b step.acknowledge) ≡ 0
+  pub no_request : request_of (taken b Acknowledge) ≡ 0
   unfolding request_of
   no_request = rw (ports_acknowledged b h, quiet (ports b))
 
@@ -102,13 +104,13 @@ module _ (b : Board) (h : sound_board b ≡ true) where
     unfolding accepted doing_of
     releases byte e =
         rw (fetch_accepted b byte h)
-        (list_taken b (step.fetch byte) ∙ list_fetched (reti_of b.decoder byte) (there b) ∙ rw (reti_is b.decoder k.history u.memory byte, e, ← serving_is (ports b), u.list))
+        (list_taken b (Fetch byte) ∙ list_fetched (reti_of b.decoder byte) (there b) ∙ rw (reti_is b.decoder k.history u.memory byte, e, ← serving_is (ports b), u.list))
 
     pub rules : Demand3 (length (ports b)) b k
     rules = record { sound = h; keeps = listed b k u; answers = goes; serves = serves; releases = releases }
 
 -- ---- the number of ports stays, and a sound board stays sound
-taken_length : (b : Board) (e : step.Doing) → length (ports (taken b e)) ≡ length (ports b)
+taken_length : (b : Board) (e : Doing) → length (ports (taken b e)) ≡ length (ports b)
 taken_length b e = rw (there_taken b e) (omega (arith, flat_length (step.after b.decoder e (there b)), flat_length (there b), after_length b.decoder e (there b)))
 
 pub step_length : (b : Board) (e : List ℕ) → length (ports (step_of b e).board) ≡ length (ports b)
@@ -198,4 +200,4 @@ no_history b byte h l =
     let shut = ne_eqb b.decoder.prefix 0 (λ e. omega (arith, e)) in
     let other = ne_eqb b.decoder.prefix 1 (λ e. omega (arith, e)) in
     rw (fetch_accepted b byte h)
-    (list_taken b (step.fetch byte) ∙ list_fetched (reti_of b.decoder byte) (there b) ∙ rw (other, ← serving_is (ports b)), rw shut)
+    (list_taken b (Fetch byte) ∙ list_fetched (reti_of b.decoder byte) (there b) ∙ rw (other, ← serving_is (ports b)), rw shut)

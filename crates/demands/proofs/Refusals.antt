@@ -9,11 +9,14 @@ use lib.ListN.{length, drop}
 use borrow.Author.Tests.{eqb-true, ne_eqb, not-true}
 use Rattle.bits.specs.Bits.{◌is◌}
 use Rattle.bits.proofs.Logic.{by_cases, both}
-use Rattle.events.specs.Events.{Event, control, write, read, strobe, outside}
+use Rattle.events.specs.declared.Event.{Event}
+use Rattle.events.specs.declared.Event.TheVariants.{Control, Write, Read, Strobe, Outside}
 use Rattle.chain.specs.Chain.{asks}
 use Rattle.board.specs.declared.Board.{Board}
 use Rattle.board.specs.Board.{ports, request_of}
-use Rattle.board.specs.Step.{value_of, Line, line, verdict, lines, refusal, Doing, reset, fetch, acknowledge, at, doing_of, taken, answer_at, answered, accepted, refused, step_of}
+use Rattle.board.specs.declared.Doing.{Doing}
+use Rattle.board.specs.declared.Doing.TheVariants.{Reset, Fetch, Acknowledge, At}
+use Rattle.board.specs.Step.{value_of, Line, line, verdict, lines, refusal, doing_of, taken, answer_at, answered, accepted, refused, step_of}
 use Rattle.demands.specs.Words.{listed, decides}
 
 -- ---- what all codes have, the verdict has
@@ -82,17 +85,17 @@ abbrev pub low : List ℕ
 low = 0 ∷ 1 ∷ 2 ∷ 3 ∷ []
 
 at_code : (b : Board) (place : ℕ) (e : Event) (v r : ℕ) → listed (answer_at b place e v r).code low ≡ true
-at_code b place (control w) v r = refl
-at_code b place (write w) v r = refl
-at_code b place read v r = refl
-at_code b place (strobe level) v r = refl
-at_code b place (outside w) v r = refl
+at_code b place (Control w) v r = refl
+at_code b place (Write w) v r = refl
+at_code b place Read v r = refl
+at_code b place (Strobe level) v r = refl
+at_code b place (Outside w) v r = refl
 
 answered_code : (b : Board) (e : Doing) (v r : ℕ) → listed (answered b e v r).code low ≡ true
-answered_code b reset v r = refl
-answered_code b (fetch byte) v r = refl
-answered_code b acknowledge v r = by_cases (asks (ports b)) (λ h. rw h) (λ h. rw h)
-answered_code b (at place e) v r = at_code b place e v r
+answered_code b Reset v r = refl
+answered_code b (Fetch byte) v r = refl
+answered_code b Acknowledge v r = by_cases (asks (ports b)) (λ h. rw h) (λ h. rw h)
+answered_code b (At place e) v r = at_code b place e v r
 
 -- ---- a step of four bytes is accepted or refused
 module _ (b : Board) (e : List ℕ) (four : length e ≡ 4) where

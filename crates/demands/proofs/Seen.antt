@@ -22,9 +22,11 @@ use Rattle.chain.specs.Decode.{reti_of}
 use Rattle.chain.proofs.Flat.{flat_at}
 use Rattle.board.specs.declared.Board.{Board}
 use Rattle.board.specs.Board.{there, ports, request_of}
-use Rattle.board.specs.Step.{kind_of, value_of, Doing, reset, fetch, acknowledge, at, doing_of, change, taken, answered, refusal, accepted, refused, step_of}
+use Rattle.board.specs.declared.Doing.{Doing}
+use Rattle.board.specs.declared.Doing.TheVariants.{Reset, Fetch, Acknowledge, At}
+use Rattle.board.specs.Step.{bytes_of, kind_of, value_of, doing_of, change, taken, answered, refusal, accepted, refused, step_of}
 use Rattle.board.proofs.There.{there_taken}
-use Rattle.records.specs.Records.{records, bytes_of, steps_of, answers_of}
+use Rattle.records.specs.Records.{records, steps_of, answers_of}
 use Rattle.demands.specs.Observer.{Kept, nothing, code, fetched, see, see_all}
 use Rattle.demands.specs.Observer as observer
 use Rattle.demands.specs.Words.{under_service, remembered}
@@ -63,10 +65,10 @@ list_acknowledged cs = rw flat_at (farthest_served (flat cs))
 
 -- ---- an accepted event, read as the step reads it
 abbrev see_doing : Doing → List ℕ → Kept → Kept
-see_doing reset a k = nothing
-see_doing (fetch byte) a k = fetched byte k
-see_doing acknowledge a k = observer.acknowledged a k
-see_doing (at place e) a k = k
+see_doing Reset a k = nothing
+see_doing (Fetch byte) a k = fetched byte k
+see_doing Acknowledge a k = observer.acknowledged a k
+see_doing (At place e) a k = k
 
 see_doing_lem : (e a : List ℕ) (k : Kept) → ltb 15 (code a) ≡ false → see e a k ≡ see_doing (doing_of e) a k
 unfolding doing_of
@@ -82,17 +84,17 @@ pub record Current (b : Board) (k : Kept) : Type 0 where
 
 look_taken : (b : Board) (d : Doing) (v r : ℕ) (k : Kept) → Current b k → Current (taken b d) (see_doing d (bytes_of (answered b d v r)) k)
 unfolding taken bytes_of
-look_taken b reset v r k u = record { list = list_taken b reset ∙ ap reverse (none_after_reset (there b)); memory = refl }
-look_taken b (fetch byte) v r k u = record {
-  list = list_taken b (fetch byte) ∙ list_fetched (reti_of b.decoder byte) (there b) ∙ rw (reti_is b.decoder k.history u.memory byte, ← serving_is (ports b), u.list);
+look_taken b Reset v r k u = record { list = list_taken b Reset ∙ ap reverse (none_after_reset (there b)); memory = refl }
+look_taken b (Fetch byte) v r k u = record {
+  list = list_taken b (Fetch byte) ∙ list_fetched (reti_of b.decoder byte) (there b) ∙ rw (reti_is b.decoder k.history u.memory byte, ← serving_is (ports b), u.list);
   memory = next_is b.decoder k.history u.memory byte;
 }
-look_taken b acknowledge v r k u = record {
-  list = list_taken b acknowledge ∙ list_acknowledged (there b) ∙ rw (← serving_is (ports b), u.list) (by_cases (asks (ports b)) (λ e. rw e) (λ e. rw e));
+look_taken b Acknowledge v r k u = record {
+  list = list_taken b Acknowledge ∙ list_acknowledged (there b) ∙ rw (← serving_is (ports b), u.list) (by_cases (asks (ports b)) (λ e. rw e) (λ e. rw e));
   memory = refl;
 }
-look_taken b (at place e) v r k u = record {
-  list = list_taken b (at place e)
+look_taken b (At place e) v r k u = record {
+  list = list_taken b (At place e)
       ∙ ap (λ (s : List Bool). reverse (places s)) (same_at (changed (side_of place) e) (changed_under (side_of place) e) (place / 2) (there b))
       ∙ rw (← serving_is (ports b)) u.list;
   memory = u.memory;

@@ -7,8 +7,8 @@ use Rattle.bits.specs.Bits.{◌is◌}
 use Rattle.buffers.specs.Splice.{splice}
 use Rattle.board.specs.declared.Board.{Board}
 use Rattle.board.specs.Board.{ports, port_at, sound_board, fresh_of, request_of}
-use Rattle.board.specs.Step.{place_of, value_of, lines, answer, step_of}
-use Rattle.records.specs.Records.{records, bytes_of, steps_of, answers_of}
+use Rattle.board.specs.Step.{bytes_of, place_of, value_of, lines, answer, step_of}
+use Rattle.records.specs.Records.{records, steps_of, answers_of}
 use Rattle.run.specs.Run.{run_lines, ran_of, buffer_of}
 use Rattle.demands.specs.Observer.{Kept, nothing, decoded}
 use Rattle.demands.specs.Words.{step_codes, run_codes, listed, decides, acknowledge, fetch, under_service, Nearing, nearest, turn, answering, remembered, found, kept, all_bytes}

@@ -8,14 +8,17 @@ use lib.ListN.{length}
 use Rattle.bits.specs.Bits.{◌is◌}
 use Rattle.bits.proofs.Logic.{by_cases}
 use Rattle.chip.specs.declared.Chip.{Chip}
-use Rattle.events.specs.Events.{Event, control, write, read, strobe, outside}
+use Rattle.events.specs.declared.Event.{Event}
+use Rattle.events.specs.declared.Event.TheVariants.{Control, Write, Read, Strobe, Outside}
 use Rattle.chain.specs.declared.Decoder.{Decoder}
 use Rattle.board.specs.declared.Board.{Board}
 use Rattle.board.specs.declared.Answer.{Answer}
 use Rattle.board.specs.Board.{there, size_ok, sound_all, sound_board, request_of, lines_of}
-use Rattle.board.specs.Step.{value_of, Doing, reset, fetch, acknowledge, at, doing_of, after, decoder_after, taken, answer_at, answered, refusal, accepted, refused, step_of}
+use Rattle.board.specs.declared.Doing.{Doing}
+use Rattle.board.specs.declared.Doing.TheVariants.{Reset, Fetch, Acknowledge, At}
+use Rattle.board.specs.Step.{bytes_of, value_of, doing_of, after, decoder_after, taken, answer_at, answered, refusal, accepted, refused, step_of}
 use Rattle.board.proofs.There.{after_length, there_taken, drop_within}
-use Rattle.records.specs.Records.{bytes_of, steps_of, answers_of}
+use Rattle.records.specs.Records.{steps_of, answers_of}
 use Rattle.meaning.specs.Beyond.{beyond, Alike, NotRead, NotChanged}
 
 -- ---- not changed
@@ -56,17 +59,17 @@ module _ (b c : Board) (h : Alike b c) where
   same_refusal e = rw (same_sound, h.chips, h.sizes)
 
   same_at : (place : ℕ) (e : Event) (v r : ℕ) → answer_at b place e v r ≡ answer_at c place e v r
-  same_at place (control w) v r = refl
-  same_at place (write w) v r = refl
-  same_at place read v r = rw h.chips
-  same_at place (strobe level) v r = refl
-  same_at place (outside w) v r = refl
+  same_at place (Control w) v r = refl
+  same_at place (Write w) v r = refl
+  same_at place Read v r = rw h.chips
+  same_at place (Strobe level) v r = refl
+  same_at place (Outside w) v r = refl
 
   same_answered : (e : Doing) (v r : ℕ) → answered b e v r ≡ answered c e v r
-  same_answered reset v r = refl
-  same_answered (fetch byte) v r = refl
-  same_answered acknowledge v r = rw h.chips
-  same_answered (at place e) v r = same_at place e v r
+  same_answered Reset v r = refl
+  same_answered (Fetch byte) v r = refl
+  same_answered Acknowledge v r = rw h.chips
+  same_answered (At place e) v r = same_at place e v r
 
   taken_alike : (e : Doing) → Alike (taken b e) (taken c e)
   unfolding taken

@@ -1,6 +1,6 @@
 -- What every event keeps of the numbers of a board: the size, the number of chips, that each is a byte, and what the decoder remembers.
 -- Assumes nothing.
-use Rattle.std.specs.Prelude.{if◌then◌else◌}
+use Rattle.std.specs.Prelude.{Result, Ok, Err, if◌then◌else◌}
 use mathlib.Core.Path.{◌≡◌, refl, ap}
 use mathlib.Core.Bool.{Bool, true, false, ◌&&◌, not}
 use mathlib.Core.List.{List, [], ◌∷◌}
@@ -17,18 +17,21 @@ use Rattle.port.specs.declared.Port.{Port}
 use Rattle.words.specs.Words.{heard_of, obeyed}
 use Rattle.words.specs.declared.Word.{Word}
 use Rattle.words.specs.declared.Word.TheVariants.{Vector, Mode, Interrupt, Enable, Select, Mask}
-use Rattle.words.specs.declared.Heard.{Heard}
-use Rattle.words.specs.declared.Heard.TheVariants.{Said, NoForm, NotOnB}
+use Rattle.refusals.specs.declared.Refusal.{Refusal}
 use Rattle.chip.specs.declared.Chip.{Chip}
 use Rattle.chip.specs.Chip.{Side, A, B, is_b, port, off, follows}
-use Rattle.events.specs.Events.{Event, control, write, read, strobe, outside, heard, obey_heard, changed}
+use Rattle.events.specs.declared.Event.{Event}
+use Rattle.events.specs.declared.Event.TheVariants.{Control, Write, Read, Strobe, Outside}
+use Rattle.events.specs.Events.{heard, obey_heard, changed}
 use Rattle.events.proofs.Keep.{byte_in}
 use Rattle.chain.specs.declared.Decoder.{Decoder}
 use Rattle.chain.specs.Chain.{flat}
 use Rattle.chain.specs.Decode.{next_of}
 use Rattle.board.specs.declared.Board.{Board}
 use Rattle.board.specs.Board.{there}
-use Rattle.board.specs.Step.{Doing, reset, fetch, acknowledge, at, doing_of, after, decoder_after, taken, refusal, accepted, refused, step_of}
+use Rattle.board.specs.declared.Doing.{Doing}
+use Rattle.board.specs.declared.Doing.TheVariants.{Reset, Fetch, Acknowledge, At}
+use Rattle.board.specs.Step.{doing_of, after, decoder_after, taken, refusal, accepted, refused, step_of}
 use Rattle.board.proofs.There.{after_length}
 use Rattle.board.proofs.Quick.{bytes_in, doing_bytes}
 use Rattle.demands.specs.Words.{bytes}
@@ -73,15 +76,14 @@ cleared_bytes : (p : Port) → BytePort p → BytePort (cleared p)
 cleared_bytes p h = (omega arith, (omega arith, (h.1.1.0, (h.1.1.1.0, (h.1.1.1.1.0, (h.1.1.1.1.1.0, (omega arith, (omega arith, tt))))))))
 
 -- ---- control words
-abbrev word_byte : Heard → Bool
-word_byte (Said (Vector v)) = ltb v 256
-word_byte (Said (Mode m)) = ltb m 256
-word_byte (Said (Interrupt on all high masked)) = true
-word_byte (Said (Enable on)) = true
-word_byte (Said (Select v)) = ltb v 256
-word_byte (Said (Mask v)) = ltb v 256
-word_byte NoForm = true
-word_byte NotOnB = true
+abbrev word_byte : Result Word Refusal → Bool
+word_byte (Ok (Vector v)) = ltb v 256
+word_byte (Ok (Mode m)) = ltb m 256
+word_byte (Ok (Interrupt on all high masked)) = true
+word_byte (Ok (Enable on)) = true
+word_byte (Ok (Select v)) = ltb v 256
+word_byte (Ok (Mask v)) = ltb v 256
+word_byte (Err r) = true
 
 heard_byte : (awaiting : ℕ) (on_b : Bool) (v : ℕ) → ltb v 256 ≡ true → word_byte (heard_of awaiting on_b v) ≡ true
 heard_byte awaiting on_b v h =
@@ -93,7 +95,7 @@ heard_byte awaiting on_b v h =
     (by_cases (v % 16 is 7) (λ e. rw e) (λ e. rw e
     (by_cases (v % 16 is 3) (λ e. rw e) (λ e. rw e)))))))))))
 
-obeyed_bytes : (linked : Bool) (p : Port) (w : Word) → word_byte (Said w) ≡ true → BytePort p → BytePort (obeyed linked p w)
+obeyed_bytes : (linked : Bool) (p : Port) (w : Word) → word_byte (Ok w) ≡ true → BytePort p → BytePort (obeyed linked p w)
 obeyed_bytes linked p (Vector v) b h = at_register p 4 (ltb-true v 256 b) h
 obeyed_bytes linked p (Mode m) b h =
     put 7 (m ∷ p.out ∷ p.input ∷ p.lines ∷ p.vector ∷ p.select ∷ p.mask ∷ p.awaiting ∷ [])
@@ -108,28 +110,27 @@ obeyed_bytes linked p (Mask v) b h = put 7 (registers (mask_at v p ∷ [])) (ome
 abbrev ByteChip : Chip → Type 0
 ByteChip c = BytePort c.a × BytePort c.b
 
-word_bytes : (s : Side) (w : Heard) (c : Chip) → word_byte w ≡ true → ByteChip c → ByteChip (obey_heard s w c)
-word_bytes A (Said w) c b h = (obeyed_bytes false c.a w b h.0, h.1)
-word_bytes B (Said w) c b h = (h.0, obeyed_bytes (off B c) c.b w b h.1)
-word_bytes s NoForm c b h = h
-word_bytes s NotOnB c b h = h
+word_bytes : (s : Side) (w : Result Word Refusal) (c : Chip) → word_byte w ≡ true → ByteChip c → ByteChip (obey_heard s w c)
+word_bytes A (Ok w) c b h = (obeyed_bytes false c.a w b h.0, h.1)
+word_bytes B (Ok w) c b h = (h.0, obeyed_bytes (off B c) c.b w b h.1)
+word_bytes s (Err r) c b h = h
 
 event_bytes : (e : Event) → byte_in e ≡ true → (s : Side) (c : Chip) → ByteChip c → ByteChip (changed s e c)
-event_bytes (control v) b s c h = word_bytes s (heard s v c) c (heard_byte (port s c).awaiting (is_b s) v b) h
-event_bytes (write v) b A c h = (at_register c.a 1 (ltb-true v 256 b) h.0, h.1)
-event_bytes (write v) b B c h = (h.0, at_register c.b 1 (ltb-true v 256 b) h.1)
-event_bytes read b A c h = h
-event_bytes read b B c h = h
-event_bytes (strobe level) b A c h = h
-event_bytes (strobe level) b B c h = h
-event_bytes (outside v) b A c h = (at_register c.a 3 (ltb-true v 256 b) h.0, h.1)
-event_bytes (outside v) b B c h = (h.0, at_register c.b 3 (ltb-true v 256 b) h.1)
+event_bytes (Control v) b s c h = word_bytes s (heard s v c) c (heard_byte (port s c).awaiting (is_b s) v b) h
+event_bytes (Write v) b A c h = (at_register c.a 1 (ltb-true v 256 b) h.0, h.1)
+event_bytes (Write v) b B c h = (h.0, at_register c.b 1 (ltb-true v 256 b) h.1)
+event_bytes Read b A c h = h
+event_bytes Read b B c h = h
+event_bytes (Strobe level) b A c h = h
+event_bytes (Strobe level) b B c h = h
+event_bytes (Outside v) b A c h = (at_register c.a 3 (ltb-true v 256 b) h.0, h.1)
+event_bytes (Outside v) b B c h = (h.0, at_register c.b 3 (ltb-true v 256 b) h.1)
 
 bytes_at : (e : Doing) → bytes_in e ≡ true → KeptAt ByteChip e
-bytes_at reset b = tt
-bytes_at (fetch byte) b = tt
-bytes_at acknowledge b = tt
-bytes_at (at place e) b = event_bytes e b
+bytes_at Reset b = tt
+bytes_at (Fetch byte) b = tt
+bytes_at Acknowledge b = tt
+bytes_at (At place e) b = event_bytes e b
 
 bytes_last : Lasting ByteChip
 bytes_last = record {
@@ -173,10 +174,10 @@ unfolding next_of
 next_prefix d byte = one_or_none ((d.prefix is 0) && (byte is 0xED))
 
 prefix_after : (n : ℕ) → 1 < n → (d : Decoder) (e : Doing) → d.prefix < n → (decoder_after d e).prefix < n
-prefix_after n l d reset h = omega arith
-prefix_after n l d (fetch byte) h = omega (arith, next_prefix d byte)
-prefix_after n l d acknowledge h = omega arith
-prefix_after n l d (at place e) h = h
+prefix_after n l d Reset h = omega arith
+prefix_after n l d (Fetch byte) h = omega (arith, next_prefix d byte)
+prefix_after n l d Acknowledge h = omega arith
+prefix_after n l d (At place e) h = h
 
 step_prefix : (n : ℕ) → 1 < n → (b : Board) (e : List ℕ) → b.decoder.prefix < n → (step_of b e).board.decoder.prefix < n
 unfolding step_of accepted refused taken

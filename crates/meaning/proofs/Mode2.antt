@@ -1,6 +1,6 @@
 -- Mode 2, sentence by sentence: the whole chip before the settling, and then what settling adds to it.
 -- Assumes nothing.
-use Rattle.std.specs.Prelude.{if◌then◌else◌}
+use Rattle.std.specs.Prelude.{Result, Ok, Err, if◌then◌else◌}
 use mathlib.Core.Path.{◌≡◌, refl, sym, ap, ap₂, ◌∙◌, subst}
 use mathlib.Core.Bool.{Bool, true, false, ◌&&◌, ◌||◌, not, beq, or-true, or-false, and-true, and-false, true≢false, false≢true}
 use mathlib.Core.List.{List, [], ◌∷◌}
@@ -18,21 +18,22 @@ use Rattle.port.specs.declared.Port.{Port}
 use Rattle.words.specs.Words.{obeyed}
 use Rattle.words.specs.declared.Word.{Word}
 use Rattle.words.specs.declared.Word.TheVariants.{Vector, Mode, Interrupt, Enable, Select, Mask}
-use Rattle.words.specs.declared.Heard.{Heard}
-use Rattle.words.specs.declared.Heard.TheVariants.{Said, NoForm, NotOnB}
+use Rattle.refusals.specs.declared.Refusal.{Refusal}
 use Rattle.chip.specs.declared.Chip.{Chip}
 use Rattle.chip.specs.Chip.{Side, A, B, on, two_way, settle}
 use Rattle.chip.specs.Sound.{sound_chip}
 use Rattle.chip.proofs.Keep.{settle_same}
-use Rattle.events.specs.Events.{Event, control, write, read, strobe, outside, heard, obey, changed}
+use Rattle.events.specs.declared.Event.{Event}
+use Rattle.events.specs.declared.Event.TheVariants.{Control, Write, Read, Strobe, Outside}
+use Rattle.events.specs.Events.{heard, obey, changed}
 use Rattle.events.specs.Act.{event_of, step_word, step}
 use Rattle.events.proofs.Touch.{obeyed_leaves}
 use Rattle.chain.specs.Places.{adjust}
 use Rattle.chain.specs.Chain.{most, ready, under, asker, flat}
 use Rattle.board.specs.declared.Board.{Board}
-use Rattle.board.specs.declared.Stepped.{Stepped}
 use Rattle.board.specs.Board.{there, sound_all, sound_board}
-use Rattle.board.specs.Step.{at, doing_of, taken, refusal, accepted, step_of}
+use Rattle.board.specs.declared.Doing.TheVariants.{At}
+use Rattle.board.specs.Step.{Stepped, doing_of, taken, refusal, accepted, step_of}
 use Rattle.board.proofs.There.{there_taken}
 use Rattle.board.proofs.Quick.{parts, after_quick, taken_sound}
 use Rattle.demands.proofs.Refusals.{step_accepted}
@@ -73,23 +74,22 @@ coupled_settles c e =
 settled_input : (c : Chip) → two_way c ≡ true → (settle c).b.input ≡ c.b.input
 settled_input c e = ap (λ (d : Chip). d.b.input) (coupled_settles c e)
 
-word_input : (s : Side) (h : Heard) (c : Chip) → two_way (step_word s h c) ≡ true → (step_word s h c).b.input ≡ c.b.input
-word_input A (Said w) c e = settled_input (obey A w c) e
-word_input B (Said w) c e = settled_input (obey B w c) e ∙ (obeyed_leaves (two_way c) c.b w).1
-word_input s NoForm c e = refl
-word_input s NotOnB c e = refl
+word_input : (s : Side) (h : Result Word Refusal) (c : Chip) → two_way (step_word s h c) ≡ true → (step_word s h c).b.input ≡ c.b.input
+word_input A (Ok w) c e = settled_input (obey A w c) e
+word_input B (Ok w) c e = settled_input (obey B w c) e ∙ (obeyed_leaves (two_way c) c.b w).1
+word_input s (Err r) c e = refl
 
 stays : (c : Chip) (s : Side) (e : Event) → two_way (step s e c) ≡ true → (step s e c).b.input ≡ c.b.input
 unfolding step
-stays c s (control v) t = word_input s (heard s v c) c t
-stays c A (write v) t = settled_input (changed A (write v) c) t
-stays c B (write v) t = settled_input (changed B (write v) c) t
-stays c A read t = settled_input (changed A read c) t
-stays c B read t = settled_input (changed B read c) t
-stays c A (strobe level) t = settled_input (changed A (strobe level) c) t
-stays c B (strobe level) t = settled_input (changed B (strobe level) c) t
-stays c A (outside v) t = settled_input (changed A (outside v) c) t
-stays c B (outside v) t = settled_input (changed B (outside v) c) t
+stays c s (Control v) t = word_input s (heard s v c) c t
+stays c A (Write v) t = settled_input (changed A (Write v) c) t
+stays c B (Write v) t = settled_input (changed B (Write v) c) t
+stays c A Read t = settled_input (changed A Read c) t
+stays c B Read t = settled_input (changed B Read c) t
+stays c A (Strobe level) t = settled_input (changed A (Strobe level) c) t
+stays c B (Strobe level) t = settled_input (changed B (Strobe level) c) t
+stays c A (Outside v) t = settled_input (changed A (Outside v) c) t
+stays c B (Outside v) t = settled_input (changed B (Outside v) c) t
 
 linked_ready : (p : Port) (w : Word) → (obeyed true p w).ready ≡ p.ready
 linked_ready p (Vector v) = refl
@@ -170,13 +170,12 @@ module _ (a b : Port) (h : sound_chip (coupled a b) ≡ true) where
     a_levels = driven a.strobe a.out;
   }
     where
-      fallen : changed A (strobe false) (coupled a b) ≡ coupled (strobe_at false a) b
+      fallen : changed A (Strobe false) (coupled a b) ≡ coupled (strobe_at false a) b
       fallen = ap₂ (λ (r w : Bool). coupled (strobe_at false (ready_at r (waiting_at w a))) b) (rw (and-false (not a.strobe)) (and-true a.ready)) (rw (and-false (not a.strobe)) (or-false a.waiting))
 
-      word_ready : (w : Heard) → (step_word B w (coupled a b)).b.ready ≡ b.ready
-      word_ready (Said w) = linked_ready b w
-      word_ready NoForm = refl
-      word_ready NotOnB = refl
+      word_ready : (w : Result Word Refusal) → (step_word B w (coupled a b)).b.ready ≡ b.ready
+      word_ready (Ok w) = linked_ready b w
+      word_ready (Err r) = refl
 
 pub mode2 : Mode2
 mode2 c h e = subst InMode2 (coupled_is c e) (in_mode2 c.a c.b (rw (coupled_is c e) h))
@@ -190,10 +189,9 @@ never_its_opposite : (t : Bool) → t ≡ not t → ⊥
 never_its_opposite true e = true≢false e
 never_its_opposite false e = false≢true e
 
-word_recouples : (h : Heard) (c : Chip) → two_way (step_word A h c) ≡ not (two_way c) → (step_word A h c).b.ready ≡ false
-word_recouples (Said w) c e = apart c.b.ready (two_way c) (two_way (obey A w c)) e
-word_recouples NoForm c e = absurd (never_its_opposite (two_way c) e)
-word_recouples NotOnB c e = absurd (never_its_opposite (two_way c) e)
+word_recouples : (h : Result Word Refusal) (c : Chip) → two_way (step_word A h c) ≡ not (two_way c) → (step_word A h c).b.ready ≡ false
+word_recouples (Ok w) c e = apart c.b.ready (two_way c) (two_way (obey A w c)) e
+word_recouples (Err r) c e = absurd (never_its_opposite (two_way c) e)
 
 pub recouples : Recouples
 unfolding step
@@ -201,16 +199,16 @@ recouples c v e = word_recouples (heard A v c) c e
 
 -- ---- the board
 pub one_chip : OneChip
-one_chip b place e h = there_taken b (at place e) ∙ after_quick b.decoder (at place e) (there b) (parts b h).1
+one_chip b place e h = there_taken b (At place e) ∙ after_quick b.decoder (At place e) (there b) (parts b h).1
 
 -- the nearest chip, after the rise of B's strobe
-nearest_is : (b : Board) (c : Chip) (cs : List Chip) → sound_board b ≡ true → there b ≡ c ∷ cs → two_way c ≡ true → c.b.strobe ≡ false → there (taken b (at 1 (strobe true))) ≡ on B ended c ∷ cs
+nearest_is : (b : Board) (c : Chip) (cs : List Chip) → sound_board b ≡ true → there b ≡ c ∷ cs → two_way c ≡ true → c.b.strobe ≡ false → there (taken b (At 1 (Strobe true))) ≡ on B ended c ∷ cs
 nearest_is b c cs h e t f =
     let all : sound_all (c ∷ cs) ≡ true = rw e at (parts b h).1 in
     let one = (both (sound_chip c) (sound_all cs) all).0 in
-    one_chip b 1 (strobe true) h ∙ ap (adjust (step B (strobe true)) 0) e ∙ ap (λ (d : Chip). d ∷ cs) ((mode2 c one t).b_rise f)
+    one_chip b 1 (Strobe true) h ∙ ap (adjust (step B (Strobe true)) 0) e ∙ ap (λ (d : Chip). d ∷ cs) ((mode2 c one t).b_rise f)
 
-rise_accepted : (b : Board) → sound_board b ≡ true → (step_of b (6 ∷ 1 ∷ 1 ∷ 0 ∷ [])).board ≡ taken b (at 1 (strobe true))
+rise_accepted : (b : Board) → sound_board b ≡ true → (step_of b (6 ∷ 1 ∷ 1 ∷ 0 ∷ [])).board ≡ taken b (At 1 (Strobe true))
 unfolding refusal accepted doing_of event_of
 rise_accepted b h =
     let s = both (leb 1 b.size) (leb b.size most) (parts b h).0 in
@@ -223,11 +221,11 @@ b_asks c cs l r u v = rw (r, u, v, l)
 pub b_answers : BAnswers
 unfolding accepted doing_of
 b_answers b c cs h e t f l r u v =
-    let sound = taken_sound b (at 1 (strobe true)) refl h in
+    let sound = taken_sound b (At 1 (Strobe true)) refl h in
     rw (
       rise_accepted b h,
-      acknowledge_accepted (taken b (at 1 (strobe true))) sound,
-      no_request (taken b (at 1 (strobe true))) sound,
+      acknowledge_accepted (taken b (At 1 (Strobe true))) sound,
+      no_request (taken b (At 1 (Strobe true))) sound,
       nearest_is b c cs h e t f,
       b_asks c cs l r u v,
       leb-suc-suc,

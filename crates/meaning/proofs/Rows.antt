@@ -18,7 +18,9 @@ use Rattle.chain.specs.Chain.{flat, asker, holder, side_of, acknowledged, retire
 use Rattle.chain.specs.Decode.{reti_of}
 use Rattle.board.specs.declared.Board.{Board}
 use Rattle.board.specs.Board.{there}
-use Rattle.board.specs.Step.{Doing, reset, fetch, acknowledge, at, doing_of, change, after, taken, refusal, accepted, refused, step_of}
+use Rattle.board.specs.declared.Doing.{Doing}
+use Rattle.board.specs.declared.Doing.TheVariants.{Reset, Fetch, Acknowledge, At}
+use Rattle.board.specs.Step.{doing_of, change, after, taken, refusal, accepted, refused, step_of}
 use Rattle.board.proofs.There.{there_taken}
 use Rattle.meaning.specs.Words.{Each}
 
@@ -34,10 +36,10 @@ pub record Lasting (X : Chip → Type 0) : Type 0 where
 
 -- and an event at a place
 abbrev pub KeptAt : (Chip → Type 0) → Doing → Type 0
-KeptAt X reset = Unit {0}
-KeptAt X (fetch byte) = Unit {0}
-KeptAt X acknowledge = Unit {0}
-KeptAt X (at place e) = (s : Side) (c : Chip) → X c → X (changed s e c)
+KeptAt X Reset = Unit {0}
+KeptAt X (Fetch byte) = Unit {0}
+KeptAt X Acknowledge = Unit {0}
+KeptAt X (At place e) = (s : Side) (c : Chip) → X c → X (changed s e c)
 
 module _ (X : Chip → Type 0) where
   each_map : (f : Chip → Chip) → ((c : Chip) → X c → X (f c)) → (cs : List Chip) → Each X cs → Each X (map f cs)
@@ -78,13 +80,13 @@ module _ (X : Chip → Type 0) where
 
     change_keeps : (d : Decoder) (e : Doing) → KeptAt X e → (cs : List Chip) → Each X cs → Each X (change d e cs)
     unfolding acknowledged retired
-    change_keeps d reset k cs h = each_map chip.reset l.reset cs h
-    change_keeps d (fetch byte) k cs h =
+    change_keeps d Reset k cs h = each_map chip.reset l.reset cs h
+    change_keeps d (Fetch byte) k cs h =
         each_map chip.fetch l.fetch (if reti_of d byte then retired cs else cs)
         (each_choice (reti_of d byte) (retired cs) cs
         (each_adjust (on (side_of (holder (flat cs))) released) (released_keeps (side_of (holder (flat cs)))) (holder (flat cs) / 2) cs h) h)
-    change_keeps d acknowledge k cs h = each_adjust (on (side_of (asker (flat cs))) served) (served_keeps (side_of (asker (flat cs)))) (asker (flat cs) / 2) cs h
-    change_keeps d (at place e) k cs h = each_adjust (changed (side_of place) e) (k (side_of place)) (place / 2) cs h
+    change_keeps d Acknowledge k cs h = each_adjust (on (side_of (asker (flat cs))) served) (served_keeps (side_of (asker (flat cs)))) (asker (flat cs) / 2) cs h
+    change_keeps d (At place e) k cs h = each_adjust (changed (side_of place) e) (k (side_of place)) (place / 2) cs h
 
     after_keeps : (d : Decoder) (e : Doing) → KeptAt X e → (cs : List Chip) → Each X cs → Each X (after d e cs)
     after_keeps d e k cs h = each_map settle l.settling (change d e cs) (change_keeps d e k cs h)

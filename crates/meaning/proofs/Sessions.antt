@@ -1,5 +1,6 @@
 -- What holds of a board after any session.
 -- Assumes nothing.
+use Rattle.std.specs.Prelude.{Result, Ok, Err}
 use mathlib.Core.Path.{◌≡◌, refl}
 use mathlib.Core.Bool.{Bool, true, false, ◌&&◌, not, beq, and-false}
 use mathlib.Core.List.{List, [], ◌∷◌}
@@ -11,15 +12,19 @@ use borrow.Author.Tests.{lt-ltb, leb-true}
 use Rattle.bits.specs.Bits.{◌is◌}
 use Rattle.bits.proofs.Logic.{by_cases, both}
 use Rattle.words.specs.declared.Word.TheVariants.{Vector, Mode, Interrupt, Enable, Select, Mask}
-use Rattle.words.specs.declared.Heard.{Heard}
-use Rattle.words.specs.declared.Heard.TheVariants.{Said, NoForm, NotOnB}
+use Rattle.refusals.specs.declared.Refusal.{Refusal}
+use Rattle.words.specs.declared.Word.{Word}
 use Rattle.chip.specs.declared.Chip.{Chip}
 use Rattle.chip.specs.Chip.{Side, A, B, two_way, chip_fresh}
-use Rattle.events.specs.Events.{Event, control, write, read, strobe, outside, heard, obey_heard, changed}
+use Rattle.events.specs.declared.Event.{Event}
+use Rattle.events.specs.declared.Event.TheVariants.{Control, Write, Read, Strobe, Outside}
+use Rattle.events.specs.Events.{heard, obey_heard, changed}
 use Rattle.chain.specs.Chain.{most}
 use Rattle.board.specs.declared.Board.{Board}
 use Rattle.board.specs.Board.{there, size_ok, blank_board, fresh_of}
-use Rattle.board.specs.Step.{Doing, reset, fetch, acknowledge, at, doing_of, step_of}
+use Rattle.board.specs.declared.Doing.{Doing}
+use Rattle.board.specs.declared.Doing.TheVariants.{Reset, Fetch, Acknowledge, At}
+use Rattle.board.specs.Step.{doing_of, step_of}
 use Rattle.board.proofs.Quick.{step_sound}
 use Rattle.records.specs.Records.{steps_of}
 use Rattle.demands.specs.Words.{bytes, all_bytes}
@@ -38,40 +43,39 @@ uncoupled r false u h e = rw (e, h refl)
 same_mode : (c : Chip) → ReadyLow c → c.b.mode ≡ 3 → two_way c ≡ false → (c.b.ready && beq (two_way c) (two_way c)) ≡ false
 same_mode c l e t = uncoupled c.b.ready (two_way c) (two_way c) (l.1 e) t
 
-word_low : (s : Side) (h : Heard) (c : Chip) → ReadyLow c → ReadyLow (obey_heard s h c)
-word_low A (Said (Vector v)) c l = (l.0, same_mode c l)
-word_low A (Said (Mode m)) c l = (λ e. and-false c.a.ready, λ e t. uncoupled c.b.ready (two_way c) (m is 2) (l.1 e) t)
-word_low A (Said (Interrupt on all high true)) c l = (l.0, same_mode c l)
-word_low A (Said (Interrupt on all high false)) c l = (l.0, same_mode c l)
-word_low A (Said (Enable on)) c l = (l.0, same_mode c l)
-word_low A (Said (Select v)) c l = (l.0, same_mode c l)
-word_low A (Said (Mask v)) c l = (l.0, same_mode c l)
-word_low B (Said (Vector v)) c l = l
-word_low B (Said (Mode m)) c l = (l.0, λ e t. rw t (and-false c.b.ready))
-word_low B (Said (Interrupt on all high true)) c l = l
-word_low B (Said (Interrupt on all high false)) c l = l
-word_low B (Said (Enable on)) c l = l
-word_low B (Said (Select v)) c l = l
-word_low B (Said (Mask v)) c l = l
-word_low s NoForm c l = l
-word_low s NotOnB c l = l
+word_low : (s : Side) (h : Result Word Refusal) (c : Chip) → ReadyLow c → ReadyLow (obey_heard s h c)
+word_low A (Ok (Vector v)) c l = (l.0, same_mode c l)
+word_low A (Ok (Mode m)) c l = (λ e. and-false c.a.ready, λ e t. uncoupled c.b.ready (two_way c) (m is 2) (l.1 e) t)
+word_low A (Ok (Interrupt on all high true)) c l = (l.0, same_mode c l)
+word_low A (Ok (Interrupt on all high false)) c l = (l.0, same_mode c l)
+word_low A (Ok (Enable on)) c l = (l.0, same_mode c l)
+word_low A (Ok (Select v)) c l = (l.0, same_mode c l)
+word_low A (Ok (Mask v)) c l = (l.0, same_mode c l)
+word_low B (Ok (Vector v)) c l = l
+word_low B (Ok (Mode m)) c l = (l.0, λ e t. rw t (and-false c.b.ready))
+word_low B (Ok (Interrupt on all high true)) c l = l
+word_low B (Ok (Interrupt on all high false)) c l = l
+word_low B (Ok (Enable on)) c l = l
+word_low B (Ok (Select v)) c l = l
+word_low B (Ok (Mask v)) c l = l
+word_low s (Err r) c l = l
 
 event_low : (e : Event) (s : Side) (c : Chip) → ReadyLow c → ReadyLow (changed s e c)
-event_low (control v) s c l = word_low s (heard s v c) c l
-event_low (write v) A c l = (λ e. rw (l.0 e, e), l.1)
-event_low (write v) B c l = (l.0, λ e t. rw (l.1 e t, e) (and-false (not (two_way c))))
-event_low read A c l = (λ e. rw (l.0 e, e), λ e t. rw (l.1 e t, t))
-event_low read B c l = (l.0, λ e t. rw (l.1 e t, e) (and-false (not (two_way c))))
-event_low (strobe level) A c l = (λ e. rw (l.0 e), l.1)
-event_low (strobe level) B c l = (l.0, λ e t. rw (l.1 e t))
-event_low (outside v) A c l = l
-event_low (outside v) B c l = l
+event_low (Control v) s c l = word_low s (heard s v c) c l
+event_low (Write v) A c l = (λ e. rw (l.0 e, e), l.1)
+event_low (Write v) B c l = (l.0, λ e t. rw (l.1 e t, e) (and-false (not (two_way c))))
+event_low Read A c l = (λ e. rw (l.0 e, e), λ e t. rw (l.1 e t, t))
+event_low Read B c l = (l.0, λ e t. rw (l.1 e t, e) (and-false (not (two_way c))))
+event_low (Strobe level) A c l = (λ e. rw (l.0 e), l.1)
+event_low (Strobe level) B c l = (l.0, λ e t. rw (l.1 e t))
+event_low (Outside v) A c l = l
+event_low (Outside v) B c l = l
 
 low_at : (e : Doing) → KeptAt ReadyLow e
-low_at reset = tt
-low_at (fetch byte) = tt
-low_at acknowledge = tt
-low_at (at place e) = event_low e
+low_at Reset = tt
+low_at (Fetch byte) = tt
+low_at Acknowledge = tt
+low_at (At place e) = event_low e
 
 low_lasts : Lasting ReadyLow
 low_lasts = record {

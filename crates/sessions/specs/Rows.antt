@@ -9,9 +9,7 @@ use Rattle.port.specs.declared.Port.{Port}
 use Rattle.chain.specs.Chain.{flat}
 use Rattle.board.specs.declared.Board.{Board}
 use Rattle.board.specs.declared.Answer.{Answer}
-use Rattle.board.specs.declared.Lines.{Lines}
-use Rattle.board.specs.declared.Made.{Made}
-use Rattle.board.specs.Board.{fresh_of, lines_of}
+use Rattle.board.specs.Board.{Told, Made, fresh_of, lines_of}
 use Rattle.board.specs.Step.{step_of}
 
 -- ---- events
@@ -59,7 +57,7 @@ abbrev pub flag : Bool → ℕ
 flag false = 0
 flag true = 1
 
-abbrev pub seen : Port → Lines → List ℕ
+abbrev pub seen : Port → Told → List ℕ
 seen p l =
     p.mode
     ∷ flag p.ready
