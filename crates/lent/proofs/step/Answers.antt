@@ -1,28 +1,28 @@
--- `lent::step` by its two ways: every chip after the event, or the one chip that the event concerns.
+-- `lent::step`: no record, a board that is not sound, or a step.
 -- Assumes nothing.
-use Rattle.std.proofs.Common.{◌≡◌, ap}
-use Rattle.board.specs.declared.Stepped.{Stepped}
-use Rattle.board.specs.Halves.{first_of, wholly, singly}
-use Rattle.board.specs.Step.{step_of}
-use Rattle.board.proofs.Steps.{step_whole, step_single}
+use Rattle.std.proofs.Common.{◌≡◌, ap, ◌∙◌, List, ℕ}
+use Rattle.board.specs.Step.{Stepped, step_of}
+use Rattle.board.specs.Halves.{advanced, advanced_of, stepped}
+use Rattle.board.proofs.Ways.{seen_err}
+use Rattle.board.proofs.Steps.{step_short, step_unsound, step_looked}
 use Rattle.lent.proofs.step.Goals as goal
 
-pub returns-then-w : goal.returns-then-w
-returns-then-w c =
+pub returns-in_default : goal.returns-in_default
+returns-in_default c =
+    let e = step_short c.args.board.now c.args.event.now c.in_default.ensures.1 in
+    record { value = rw (c.into.ensures) (ap (λ (s : Stepped). s.answer) e); board_after = ap (λ (s : Stepped). s.board) e }
+
+pub returns-in-Ok-look_over : goal.returns-in-Ok-look_over
+returns-in-Ok-look_over c =
+    let seen = c.in-Ok-look_over.ensures in
+    let four = c.in-Ok.ensures.1 in
     let b = c.args.board.now in
-    let w = c.step_seen-w.result in
-    let i : w ≡ first_of b c.args.event.now = rw c.look_over-seen.ensures.0 at c.step_seen-w.ensures.0 in
-    let e : wholly b w c.step_chips-s.result ≡ step_of b c.args.event.now =
-    step_whole b c.args.event.now w c.look_over-seen.ensures.1 i c.step_chips-s.result c.if-w.true c.step_chips-s.ensures
-    in
+    let l = c.in-Ok-look_over.look in
+    let e : stepped (advanced c.advance.new.board c.advance.new.look c.advance.result) ≡ step_of b c.args.event.now =
+    ap stepped c.advance.ensures ∙ ap (λ (e : List ℕ). stepped (advanced_of b l e)) four.same ∙ step_looked b l c.args.event.now seen.1 seen.0 four.long in
     record { value = ap (λ (s : Stepped). s.answer) e; board_after = ap (λ (s : Stepped). s.board) e }
 
-pub returns-else-w : goal.returns-else-w
-returns-else-w c =
-    let b = c.args.board.now in
-    let w = c.step_seen-w.result in
-    let i : w ≡ first_of b c.args.event.now = rw c.look_over-seen.ensures.0 at c.step_seen-w.ensures.0 in
-    let e : singly b w c.step_chip-r.result ≡ step_of b c.args.event.now =
-    step_single b c.args.event.now w c.look_over-seen.ensures.1 i c.step_chip-r.result c.if-w.false c.step_chip-r.ensures
-    in
-    record { value = ap (λ (s : Stepped). s.answer) e; board_after = ap (λ (s : Stepped). s.board) e }
+pub returns-in-Err : goal.returns-in-Err
+returns-in-Err c =
+    let e = step_unsound c.args.board.now c.args.event.now c.in-Err.refusal c.in-Ok.ensures.1.long c.in-Err.ensures.0 in
+    record { value = rw (c.in-Ok.ensures.1.same, c.into-in-Err.ensures, (seen_err c.args.board.now c.in-Err.refusal c.in-Err.ensures.0).1) (ap (λ (s : Stepped). s.answer) e); board_after = ap (λ (s : Stepped). s.board) e }
