@@ -8,8 +8,10 @@ ghost use Rattle.buffers.specs.Splice.{Wrote};
 ghost use Rattle.station.specs.Pages.{GoesOn, Shown};
 ghost use Rattle.station.specs.Failures.{why_of};
 
+use refusals::Refusal;
 use std::env::FillError;
-use std::io::{Cursor, Error, ErrorKind, Read, Result, Write};
+use std::io;
+use std::io::{Cursor, Error, ErrorKind, Read, Write};
 use std::rt::Env;
 
 // A buffer of zeros.
@@ -66,22 +68,22 @@ pub fn arg_count(rt: &impl Env) -> usize {
     usize::MAX
 }
 
-#[tactic(auto, using(crate::proofs::Sizes::at_most_4))]
-// The size that an argument asks for: 4 without one, and 0, which no board has, where it is no size.
-pub fn size_asked(rt: &impl Env, argument: usize) -> usize
-    ensures { result ≤ 4 }
+#[tactic(auto, using(crate::proofs::Sizes::asked))]
+// The size that an argument asks for: 4 without one, and refused where it is no size.
+pub fn size_asked(rt: &impl Env, argument: usize) -> Result<usize, Refusal>
+    ensures { MatchResult result (λ n. (1 ≤ n) × (n ≤ 4)) (λ r. r ≡ Refusal.Size) }
 {
     let mut word = [0u8; 4096];
     match rt.arg(argument, &mut word) {
         Ok(n) => text::size_in(&word[..n]),
-        Err(FillError::NotPresent) => 4,
-        Err(FillError::TooLong) => 0,
+        Err(FillError::NotPresent) => Ok(4),
+        Err(FillError::TooLong) => Err(Refusal::Size),
     }
 }
 
 // Reads what has come, and then the rest of its last record; the buffer takes whole records alone. Answers how many bytes there are:
 // none where the input has ended, and a part of a record at the end only where the input ends there.
-pub fn read_records<R: Read>(stdin: &mut R, buffer: &mut [u8]) -> Result<usize>
+pub fn read_records<R: Read>(stdin: &mut R, buffer: &mut [u8]) -> io::Result<usize>
     ensures bound { IfOk result (λ n. n ≤ length buffer.old) }
     ensures bytes { MatchResult result (λ n. Consumes (R.remaining stdin.old) (R.remaining stdin.new) (take n buffer.new)) (λ _. Keeps (R.remaining stdin.old) (R.remaining stdin.new)) }
 {
