@@ -1,16 +1,19 @@
 -- A piece of the input: its whole records are run, and the buffer of answers then holds what the listing's text is made of.
 -- Assumes nothing.
-use Rattle.std.proofs.Common.{◌≡◌, ℕ, suc, ◌+◌, ◌*◌, ◌/◌, ◌%◌, ◌≤◌, true, List, [], ◌∷◌, length, get_or, take, drop, refl, ap, ◌∙◌, arith, length-take-le, take_at, w8, Fits, le-ltb, lt-ltb, eq-eqb}
+use Rattle.std.proofs.Common.{◌≡◌, ℕ, suc, ◌+◌, ◌*◌, ◌/◌, ◌%◌, ◌≤◌, true, List, [], ◌∷◌, length, get_or, take, drop, refl, ap, ◌∙◌, arith, length-take-le, take_at, w8, Fits, le-ltb, lt-ltb, eq-eqb, Ok, Err}
+use Rattle.std.specs.Prelude.{Result, IsOk}
+use Rattle.refusals.specs.declared.Refusal.{Refusal}
+use Rattle.refusals.proofs.Refused.{refused}
 use Rattle.buffers.specs.Splice.{splice, if_room, Wrote}
 use Rattle.buffers.proofs.Splices.{wrote_all, wrote_then, wrote_length}
 use Rattle.board.specs.declared.Board.{Board}
 use Rattle.chip.proofs.Keep.{fresh_sound}
-use Rattle.board.specs.Board.{sound_board, fresh_of}
+use Rattle.board.specs.Board.{Made, sound_board, made_by, fresh_of}
 use Rattle.board.specs.Step.{step_of}
 use Rattle.board.proofs.Quick.{step_sound}
 use Rattle.records.specs.Records.{records, steps_of, answers_of}
 use Rattle.records.proofs.Whole.{records_length, answers_length}
-use Rattle.run.specs.Run.{refusal_of, ran_of, buffer_of}
+use Rattle.run.specs.Run.{Ran, refusal_of, ran_by, ran_of, buffer_of}
 use Rattle.text.specs.Listing.{listing_of, tail_of}
 use Rattle.listing.specs.Text.{text_of}
 
@@ -37,9 +40,15 @@ stays_sound b (k ∷ p ∷ v ∷ z ∷ rest) bytes s =
     let e = k ∷ p ∷ v ∷ z ∷ [] in
     stays_sound (step_of b e).board rest (λ i. bytes (suc (suc (suc (suc i))))) (step_sound b e (lt-ltb v 256 (omega (arith, bytes 2))) s)
 
-pub fresh_board : sound_board (fresh_of 4).board ≡ true
+-- ---- what is not refused is there
+pub made : (r : Result Board Refusal) → made_by r ≡ fresh_of 4 → IsOk r
+unfolding fresh_of
+made (Ok b) e = refl
+made (Err r) e = absurd (refused r (ap (λ (x : Made). x.code) e))
+
+pub made_sound : (b : Board) → made_by (Ok b) ≡ fresh_of 4 → sound_board b ≡ true
 unfolding fresh_of sound_board
-fresh_board = rw fresh_sound
+made_sound b e = rw (ap (λ (x : Made). x.board) e) (rw fresh_sound)
 
 module _ (b : Board) (es old : List ℕ) (sound : sound_board b ≡ true) (fits : length es ≤ length old) where
   abbrev whole : List ℕ
@@ -58,9 +67,16 @@ module _ (b : Board) (es old : List ℕ) (sound : sound_board b ≡ true) (fits 
         le-ltb (length old / 4) (0 + length whole / 4) (omega (arith, whole_length)),
       )
 
-  pub after : (ran_of b whole old 0).board ≡ steps_of b (records es)
+  ran : ran_of b whole old 0 ≡ record { code = 0; records = length es / 4; board = steps_of b (records es) }
   unfolding ran_of
-  after = rw (accepted, records_whole es)
+  ran = let n : length whole / 4 ≡ length es / 4 = omega (arith, whole_length) in rw (accepted, n, records_whole es) refl
+
+  pub taken : (b' : Board) (r : Result ℕ Refusal) → ran_by b' r ≡ ran_of b whole old 0 → IsOk r
+  taken b' (Ok n) e = refl
+  taken b' (Err r) e = absurd (refused r (ap (λ (x : Ran). x.code) (e ∙ ran)))
+
+  pub after : (b' : Board) (n : ℕ) → ran_by b' (Ok n) ≡ ran_of b whole old 0 → (n ≡ length es / 4) × (b' ≡ steps_of b (records es))
+  after b' n e = (ap (λ (x : Ran). x.records) (e ∙ ran), ap (λ (x : Ran). x.board) (e ∙ ran))
 
   abbrev answers : List ℕ
   answers = answers_of b (records es)
@@ -77,9 +93,9 @@ module _ (b : Board) (es old : List ℕ) (sound : sound_board b ≡ true) (fits 
   pub listed : {out m m' : List ℕ} {at n : ℕ} (number : ℕ) → 105 * (length es / 4) + 26 ≤ length out
       → Wrote out 0 (if_room out 0 (105 * (length answers / 4)) (listing_of number answers)) m at → at ≤ 0 + 105 * (length answers / 4)
       → Wrote m at (if_room m at 26 (tail_of (length es))) m' n → n ≤ at + 26
-      → Wrote out 0 (text_of b number es) m' n × (n ≤ 105 * (length es / 4) + 26)
+      → Wrote out 0 (text_of b number es) m' n
   unfolding text_of
   listed {out} {m} {m'} {at} {n} number room lines few tail fewer =
       let put = wrote_all (105 * (length answers / 4)) (omega (arith, answers_long)) lines in
       let long = wrote_length put (omega (arith, answers_long)) in
-      (wrote_then (omega arith) put (wrote_all 26 (omega (arith, answers_long)) tail), omega (arith, answers_long))
+      wrote_then (omega arith) put (wrote_all 26 (omega (arith, answers_long)) tail)

@@ -1,8 +1,8 @@
 -- A listing made piece by piece, as the program makes it, is the listing of the whole input. Assumes nothing.
 use Rattle.std.proofs.Common.{◌≡◌, ℕ, ◌+◌, ◌/◌, ◌%◌, ◌^◌, ◌<◌, List, ◌++◌, length, refl, append_assoc, append-nil}
 use Rattle.board.specs.declared.Board.{Board}
-use Rattle.board.specs.Step.{step_of}
-use Rattle.records.specs.Records.{records, bytes_of, steps_of, answers_of}
+use Rattle.board.specs.Step.{bytes_of, step_of}
+use Rattle.records.specs.Records.{records, steps_of, answers_of}
 use Rattle.text.specs.Listing.{listing_of, tail_of}
 use Rattle.text.proofs.Pieces as text
 use Rattle.listing.specs.Text.{text_of}
