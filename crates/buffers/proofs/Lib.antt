@@ -1,4 +1,5 @@
 pub mod Splices
+pub mod Chunks
 pub mod Decimals
 pub mod Rows
 pub mod Examples

@@ -1,7 +1,7 @@
 // The export of a recording for the wave viewer. Document 02, Ask 1: the records one after the other, and what each time shows.
 #![tactic(auto)]
 
-ghost use Rattle.std.specs.Prelude.{◌≡◌, Ok, ◌+◌, ◌*◌, ◌/◌, ◌%◌, ◌≤◌, length};
+ghost use Rattle.std.specs.Prelude.{◌≡◌, Ok, IfOk, ◌+◌, ◌*◌, ◌/◌, ◌%◌, ◌≤◌, length};
 ghost use Rattle.buffers.specs.Splice.{splice, if_room};
 ghost use Rattle.chain.specs.Chain.{most};
 ghost use Rattle.board.specs.Halves.{seen_of};
@@ -12,10 +12,11 @@ ghost use Rattle.recording.specs.Wave.{wave_text, checked_of, exported_by, expor
 use board::{Board, Look};
 use refusals::Refusal;
 
-// The refusals of an export of a sound board whose text has `text` bytes.
+// The refusals of an export of a sound board whose text has `text` bytes; and what all the rest may rely on.
 #[tactic(auto, unfolding(crate::specs::Wave::checked_of))]
 fn check(events: usize, stamps: usize, text: usize, room: usize) -> Result<(), Refusal>
-    ensures { result ≡ checked_of events stamps text room }
+    ensures value { result ≡ checked_of events stamps text room }
+    ensures passed { IfOk result (λ x. (events % 4 ≡ 0) × ((events / 4 ≤ 16384) × (stamps ≡ 2 * (events / 4)))) }
 {
     if events % 4 != 0 {
         return Err(Refusal::Length);

@@ -5,6 +5,7 @@ use Rattle.std.proofs.Common.{◌≡◌, ℕ, ◌+◌, ◌*◌, ◌/◌, ◌%◌
 use Rattle.buffers.specs.Splice.{has_room, if_room, Wrote}
 use Rattle.buffers.specs.Text.{ascii}
 use Rattle.buffers.specs.Rows.{row_of}
+use Rattle.buffers.proofs.Chunks.{chunk_at}
 use Rattle.buffers.proofs.Splices.{wrote_none, wrote_all, Writing, writing_part, writing_done}
 use Rattle.text.specs.Listing.{after, listing_of, tail_of}
 
@@ -19,12 +20,6 @@ first_line number (a ∷ []) h = absurd (omega arith)
 first_line number (a ∷ b ∷ []) h = absurd (omega arith)
 first_line number (a ∷ b ∷ c ∷ []) h = absurd (omega arith)
 first_line number (a ∷ b ∷ c ∷ d ∷ bs) h = refl
-
--- record i of k
-record_at : (k i : ℕ) (bs : List ℕ) → i < k → get_or (first_chunks 4 k bs) i [] ≡ take 4 (drop (4 * i) bs)
-record_at zero i bs h = absurd (omega arith)
-record_at (suc k) zero bs h = refl
-record_at (suc k) (suc i) bs h = let e : 4 + 4 * i ≡ 4 * suc i = omega arith in record_at k i (drop 4 bs) (omega arith) ∙ rw (drop-drop, e)
 
 -- fewer than four bytes have no line
 no_lines : (bs : List ℕ) (number : ℕ) → length bs < 4 → listing_of number bs ≡ []
@@ -55,7 +50,7 @@ module _ (bs old : List ℕ) (at first : ℕ) where
         within = omega arith;
         room = omega (arith, w.room);
         rest =
-            writing_part w.rest (rw (drop-drop, more) at line) (wrote_all 105 (omega (arith, w.room, w.rest.long)) (rw (e, record_at (length bs / 4) i bs h) at row))
+            writing_part w.rest (rw (drop-drop, more) at line) (wrote_all 105 (omega (arith, w.room, w.rest.long)) (rw (e, chunk_at 4 (length bs / 4) i bs h) at row))
             (omega (arith, w.room));
       }
 
