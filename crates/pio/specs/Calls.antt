@@ -4,7 +4,7 @@
 use Rattle.std.specs.Prelude.{◌≡◌, List, ℕ, length}
 use Rattle.board.specs.declared.Board.{Board}
 use Rattle.board.specs.Board.{fresh_of}
-use Rattle.records.specs.Records.{bytes_of}
+use Rattle.board.specs.Step.{bytes_of}
 use Rattle.run.specs.Run.{ran_of, buffer_of}
 use Rattle.recording.specs.Wave.{exported_of, page_of}
 use Rattle.pio.specs.Lent.{lent_of, lent_lines, lines_bytes, written}

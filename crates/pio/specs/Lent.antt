@@ -4,10 +4,8 @@
 use Rattle.std.specs.Prelude.{List, [], ◌∷◌, ℕ, leb, length, if◌then◌else◌}
 use Rattle.buffers.specs.Splice.{splice, if_room}
 use Rattle.board.specs.declared.Board.{Board}
-use Rattle.board.specs.declared.Stepped.{Stepped}
-use Rattle.board.specs.declared.Lines.{Lines}
-use Rattle.board.specs.Board.{lines_of}
-use Rattle.board.specs.Step.{answer, step_of}
+use Rattle.board.specs.Board.{Told, lines_of}
+use Rattle.board.specs.Step.{answer, Stepped, step_of}
 
 -- the step, with a buffer of `room` bytes for its answer's four
 unfoldable pub lent_of : Board → List ℕ → ℕ → Stepped
@@ -16,12 +14,12 @@ lent_of b e room =
     else record { board = b; answer = answer 34 0 0 0 }
 
 -- the driven lines, with a buffer of `room` bytes for the two: the levels, and a 1 for each driven line
-unfoldable pub lent_lines : Board → ℕ → ℕ → Lines
+unfoldable pub lent_lines : Board → ℕ → ℕ → Told
 lent_lines b place room =
     if leb 2 room then lines_of b place
     else record { code = 34; levels = 0; driven = 0 }
 
-abbrev pub lines_bytes : Lines → List ℕ
+abbrev pub lines_bytes : Told → List ℕ
 lines_bytes l = l.levels ∷ l.driven ∷ []
 
 -- a buffer once `block` is written at its start: its other bytes stay, and where it is too short they all do

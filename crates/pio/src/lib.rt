@@ -4,48 +4,52 @@
 // promises.
 #![tactic(auto)]
 
-ghost use Rattle.std.specs.Prelude.{◌≡◌, leb, length};
-ghost use Rattle.records.specs.Records.{bytes_of};
-ghost use Rattle.pio.specs.Lent.{lent_lines, lines_bytes, written};
+ghost use Rattle.std.specs.Prelude.{◌≡◌};
+ghost use Rattle.board.specs.Board.{blank_board};
 ghost use Rattle.pio.specs.Calls.{FreshCall, StepCall, RunCall, WaveCall, LinesCall};
 
-use board::{Answer, Board};
+use board::Board;
+use chain::{Decoder, MOST};
+use refusals::Refusal;
+
+// What stands for a board that was refused: a board of size 0.
+fn blank() -> Board
+    ensures { result ≡ blank_board 0 }
+{
+    Board {
+        size: 0,
+        chips: [chip::fresh_chip(); MOST],
+        decoder: Decoder { prefix: 0 },
+    }
+}
 
 // A fresh board of `size` chips; 33 and a board of size 0 for a size that no board has.
 pub fn pio_fresh(board: &mut Board, size: usize) -> u8
     ensures { FreshCall size result board.new }
 {
-    let m = board::fresh(size);
-    *board = m.board;
-    m.code
-}
-
-// Whether a buffer of `length` bytes has room for `need`.
-fn has_room(length: usize, need: usize) -> bool
-    ensures { result ≡ leb need length }
-{
-    need <= length
-}
-
-// An answer's four bytes at the start of `out`. Answers its code.
-fn put_answer(out: &mut [u8], a: Answer) -> u8
-    ensures value { result ≡ a.code }
-    ensures out_after { out.new ≡ written out.old (bytes_of a) }
-{
-    buffers::put_record(out, [a.code, a.place, a.value, a.request]);
-    a.code
+    match board::fresh(size) {
+        Ok(fresh) => {
+            *board = fresh;
+            0
+        }
+        Err(refusal) => {
+            *board = blank();
+            refusal.into()
+        }
+    }
 }
 
 // One step, with its answer's four bytes at the start of `answer`. A shorter buffer is refused with 34 before all else.
+#[tactic(auto, using(buffers::proofs::Splices::no_room, buffers::proofs::Splices::splice_none), unfolding(crate::specs::Lent::lent_of, crate::specs::Lent::written, board::specs::Step::bytes_of))]
 pub fn pio_step(board: &mut Board, event: &[u8], answer: &mut [u8]) -> u8
     ensures { StepCall board.old event.now answer.old result board.new answer.new }
 {
-    if has_room(answer.len(), 4) {
-        let a = lent::step(board, event);
-        return put_answer(answer, a);
-    } else {
-        return 34;
+    if answer.len() < 4 {
+        return Refusal::Room.into();
     }
+    let a = lent::step(board, event);
+    buffers::put_record(answer, <[u8; 4]>::from(a));
+    a.code
 }
 
 // A run over the records of `events`, their answers from the record `start` of `answers` on, and their number in `records`.
@@ -58,10 +62,16 @@ pub fn pio_run(
 ) -> u8
     ensures { RunCall board.old events.now answers.old start result board.new answers.new records.new }
 {
-    let r = run::run(*board, events, answers, start);
-    *board = r.board;
-    *records = r.records;
-    r.code
+    match run::run(board, events, answers, start) {
+        Ok(count) => {
+            *records = count;
+            0
+        }
+        Err(refusal) => {
+            *records = 0;
+            refusal.into()
+        }
+    }
 }
 
 // The text of a recording at the start of `text`, and its length in `written`.
@@ -74,30 +84,33 @@ pub fn pio_wave(
 ) -> u8
     ensures { WaveCall board.old events.now stamps.now text.old result board.new text.new written.new }
 {
-    let r = recording::export(*board, events, stamps, text);
-    *board = r.board;
-    *written = r.length;
-    r.code
-}
-
-// The levels at a place and a 1 for each driven line, at the start of `out`. Answers the code; a shorter buffer is refused with 34
-// before all else.
-fn put_lines(board: Board, place: usize, out: &mut [u8]) -> u8
-    ensures value { result ≡ (lent_lines board place (length out.old)).code }
-    ensures out_after { out.new ≡ written out.old (lines_bytes (lent_lines board place (length out.old))) }
-{
-    if out.len() < 2 {
-        return 34;
+    match recording::export(board, events, stamps, text) {
+        Ok(length) => {
+            *written = length;
+            0
+        }
+        Err(refusal) => {
+            *written = 0;
+            refusal.into()
+        }
     }
-    let l = board::driven_lines(board, place);
-    out[0] = l.levels;
-    out[1] = l.driven;
-    l.code
 }
 
-// The lines driven at a place: two bytes at the start of `lines`.
+// The lines driven at a place: the levels and a 1 for each driven line, two bytes at the start of `lines`, or two of 0 with a refusal. A
+// shorter buffer is refused with 34 before all else.
+#[tactic(auto, using(buffers::proofs::Splices::no_room, buffers::proofs::Splices::splice_none, buffers::proofs::Splices::start_in_room), unfolding(crate::specs::Lent::lent_lines, crate::specs::Lent::written))]
 pub fn pio_lines(board: &Board, place: usize, lines: &mut [u8]) -> u8
     ensures { LinesCall board.now place lines.old result lines.new }
 {
-    put_lines(*board, place, lines)
+    if lines.len() < 2 {
+        return Refusal::Room.into();
+    }
+    let mut code = 0;
+    let mut shown = [0, 0];
+    match board::driven_lines(board, place) {
+        Ok(told) => shown = [told.levels, told.driven],
+        Err(refusal) => code = refusal.into(),
+    }
+    lines[..2].copy_from_slice(&shown);
+    code
 }
