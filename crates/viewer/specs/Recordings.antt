@@ -3,8 +3,7 @@
 -- Assumes nothing.
 use Rattle.std.specs.Prelude.{◌≡◌, List, [], ◌∷◌, ◌++◌, map, ℕ, suc, ◌+◌, ◌≤◌, ◌<◌, length, get_or, take}
 use Rattle.board.specs.declared.Board.{Board}
-use Rattle.board.specs.declared.Stepped.{Stepped}
-use Rattle.board.specs.Step.{step_of}
+use Rattle.board.specs.Step.{Stepped, step_of}
 use Rattle.records.specs.Records.{records, steps_of}
 use Rattle.frames.specs.Stamps.{stamps_of, times_of}
 use Rattle.frames.specs.Values.{values_of}
