@@ -14,13 +14,11 @@ use Rattle.bits.proofs.Logic.{by_cases, both}
 use Rattle.buffers.specs.Splice.{splice}
 use Rattle.buffers.proofs.Splices.{length_splice}
 use Rattle.board.specs.declared.Board.{Board}
-use Rattle.board.specs.declared.Stepped.{Stepped}
 use Rattle.port.specs.Rules.{levels_now, driven_of}
 use Rattle.board.specs.Board.{port_at, size_ok, sound_board, fresh_of, lines_of}
-use Rattle.board.specs.Step.{Line, answer, step_of}
-use Rattle.records.specs.Records.{records, bytes_of}
-use Rattle.run.specs.declared.Ran.{Ran}
-use Rattle.run.specs.Run.{ran_of}
+use Rattle.board.specs.Step.{Line, answer, bytes_of, Stepped, step_of}
+use Rattle.records.specs.Records.{records}
+use Rattle.run.specs.Run.{Ran, ran_of}
 use Rattle.recording.specs.Wave.{wave_text, wave_lines, refusal_of, wave_refusal, exported_of, page_of}
 use Rattle.pio.specs.Lent.{lent_of, lent_lines, written}
 use Rattle.pio.specs.Calls.{StepCall, WaveCall, LinesCall}

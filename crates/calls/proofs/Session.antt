@@ -13,9 +13,9 @@ use Rattle.bits.specs.Bits.{◌is◌}
 use Rattle.bits.proofs.Logic.{by_cases, both}
 use Rattle.board.specs.declared.Board.{Board}
 use Rattle.board.specs.Board.{ports, size_ok, sound_board, fresh_of}
-use Rattle.board.specs.Step.{step_of}
+use Rattle.board.specs.Step.{bytes_of, step_of}
 use Rattle.board.proofs.Quick.{step_sound}
-use Rattle.records.specs.Records.{records, bytes_of, steps_of, answers_of}
+use Rattle.records.specs.Records.{records, steps_of, answers_of}
 use Rattle.records.proofs.Whole.{records_length, answers_length, records_whole}
 use Rattle.pio.specs.Lent.{lent_of}
 use Rattle.pio.specs.Calls.{FreshCall, StepCall, RunCall, WaveCall}
