@@ -50,7 +50,6 @@ fn choose(first: bool, x: u8, y: u8) -> u8
 }
 
 // What the chain needs to know of a chip. No branch hangs on the ports' flags: nobody can foretell them.
-
 #[tactic(auto, using(crate::proofs::Marks::chosen))]
 fn mark(c: Chip) -> u8
     ensures { result ≡ mark_of c }
@@ -87,7 +86,6 @@ pub fn marked(marks: Marks, k: usize, c: Chip) -> Marks
 }
 
 // The place of the nearest asking port and 1, or 0 if none asks.
-
 #[tactic(auto, using(crate::proofs::Scans::caller_past, crate::proofs::Scans::caller_here, crate::proofs::Scans::caller_shut, crate::proofs::Scans::caller_ends))]
 pub fn caller(marks: Marks) -> u8
     ensures { result ≡ caller_of marks }
@@ -105,7 +103,6 @@ pub fn caller(marks: Marks) -> u8
 }
 
 // Who asks where the chip `k` is now `c`; `request` is who asked before. It is searched for only if the chip's mark changes.
-
 #[tactic(auto, using(crate::proofs::Marks::asks_still, crate::proofs::Marks::asks_same, crate::proofs::Marks::asks_anew))]
 pub fn renewed(marks: Marks, k: usize, c: Chip, request: u8) -> u8
     ensures { result ≡ renewed_of marks k c request }
@@ -123,7 +120,6 @@ pub fn renewed(marks: Marks, k: usize, c: Chip, request: u8) -> u8
 }
 
 // The place of the nearest port under service, if one is.
-
 #[tactic(auto, using(crate::proofs::Scans::holder_past, crate::proofs::Scans::holder_here, crate::proofs::Scans::holder_ends))]
 pub fn holder(marks: Marks) -> Option<usize>
     ensures { held_by result ≡ holder_of marks }
