@@ -5,10 +5,9 @@ use Rattle.std.specs.Prelude.{ℕ, ◌+◌, List, [], ◌∷◌, ◌++◌, lengt
 use Rattle.port.specs.declared.Port.{Port}
 use Rattle.buffers.specs.Rows.{row_of}
 use Rattle.board.specs.declared.Board.{Board}
-use Rattle.board.specs.declared.Stepped.{Stepped}
 use Rattle.board.specs.Board.{ports, lines_of}
-use Rattle.board.specs.Step.{step_of}
-use Rattle.records.specs.Records.{records, bytes_of}
+use Rattle.board.specs.Step.{bytes_of, step_of, Stepped}
+use Rattle.records.specs.Records.{records}
 use Rattle.text.specs.Listing.{after, listing_of, tail_of}
 use Rattle.text.specs.Panel.{row_of_place}
 
