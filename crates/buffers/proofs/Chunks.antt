@@ -1,6 +1,6 @@
 -- The chunks of a list, as `as_chunks` cuts it. Assumes nothing.
 use Rattle.std.specs.Simd.{first_chunks}
-use mathlib.Core.Path.{◌≡◌, refl, ◌∙◌}
+use mathlib.Core.Path.{◌≡◌, ◌∙◌}
 use mathlib.Core.List.{List, []}
 use Prim.Native.Nat.{ℕ, zero, suc, ◌+◌, ◌*◌, ◌<◌}
 use native.Mathlib.Omega.{arith}

@@ -83,6 +83,7 @@ fn separator(left: usize) -> u8
 }
 
 // The digits of a number of a row. Most are flags and codes of one digit, which are stored at once.
+#[tactic(auto, using(crate::proofs::Decimals::digits_one, crate::proofs::Decimals::length_one, crate::proofs::Splices::set_splice))]
 fn number(out: &mut [u8], at: usize, n: u64) -> usize
     requires { at + length (digits_of n) ≤ length out.old }
     ensures { Wrote out.old at (digits_of n) out.new result }

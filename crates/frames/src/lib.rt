@@ -21,6 +21,7 @@ fn stamp(stamps: &[u8], i: usize) -> u16
 
 // How long after record i the next one comes, in microseconds: the wrapping difference of their stamps. Behind the last record it is
 // 65,536, which no difference is.
+#[tactic(auto, using(crate::proofs::Gaps::gap_between, crate::proofs::Gaps::gap_behind))]
 pub fn gap_after(stamps: &[u8], i: usize) -> u64
     ensures { (result ≡ gap_from stamps.now i) × (result ≤ 65536) }
 {
@@ -37,6 +38,7 @@ pub fn gap_after(stamps: &[u8], i: usize) -> u64
 }
 
 // The value of a Ready line of chip k, which may be beyond the board's size.
+#[tactic(auto, using(bits::proofs::Tests::bool_byte_lem))]
 fn shows(size: u8, k: u8, ready: bool) -> u8
     ensures { result ≡ flag (nat_lt k size && ready) }
 {
@@ -62,6 +64,7 @@ pub fn values(size: u8, chips: [Chip; MOST], request: u8) -> [u8; 9]
 }
 
 // The recording's header at the start of `out`. Answers its length; without room for it all it is 0, and nothing is written.
+#[tactic(auto, unfolding(crate::specs::Frames::header))]
 pub fn put_header(out: &mut [u8]) -> usize
     ensures { Wrote out.old 0 (if_room out.old 0 257 header) out.new result }
 {
@@ -73,6 +76,7 @@ pub fn put_header(out: &mut [u8]) -> usize
 }
 
 // A value as text.
+#[tactic(auto, using(bits::proofs::Tests::tests))]
 fn digit(value: u8) -> u8
     ensures { result ≡ (if value is 0 then 48 else 49) }
 {
@@ -80,6 +84,7 @@ fn digit(value: u8) -> u8
 }
 
 // The line of one value at index `at`. Answers the index behind it; without room for it all it is `at`.
+#[tactic(auto, unfolding(crate::specs::Frames::value_line))]
 fn put_value(out: &mut [u8], at: usize, character: u8, value: u8) -> usize
     ensures { Wrote out.old at (if_room out.old at 3 (value_line character value)) out.new result }
 {
@@ -116,6 +121,7 @@ fn put_time(out: &mut [u8], time: u64) -> usize
 
 // The text of a time at the start of `out`: its line, and the lines of the values that are not as they were shown; nothing where all
 // are. It asks for 49 bytes: a time has at most 20 digits. Answers the text's length; without that room it is 0.
+#[tactic(auto, using(buffers::proofs::Splices::no_room, buffers::proofs::Splices::room, buffers::proofs::Splices::splice_none, crate::proofs::Changes::no_frame))]
 pub fn put_frame(out: &mut [u8], time: u64, shown: [u8; 9], values: [u8; 9]) -> usize
     ensures wrote { Wrote out.old 0 (if_room out.old 0 49 (later_frame time shown values)) out.new result }
     ensures upper_bound { result ≤ 49 }

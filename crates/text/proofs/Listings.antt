@@ -1,12 +1,12 @@
 -- The laws of a listing that is written line by line, and of its tail. Assumes nothing.
 use Rattle.std.specs.Prelude.{if◌then◌else◌}
 use Rattle.std.specs.Simd.{first_chunks}
-use Rattle.std.proofs.Common.{◌≡◌, ℕ, ◌+◌, ◌*◌, ◌/◌, ◌%◌, ◌<◌, ◌≤◌, Bool, true, false, List, [], ◌∷◌, ◌++◌, length, get_or, take, drop, refl, ◌∙◌, zero, suc, drop-drop, arith, length-drop, eq-eqb, ne_eqb}
+use Rattle.std.proofs.Common.{◌≡◌, ℕ, ◌+◌, ◌*◌, ◌/◌, ◌%◌, ◌<◌, ◌≤◌, Bool, true, false, List, [], ◌∷◌, ◌++◌, length, get_or, take, drop, refl, drop-drop, arith, length-drop, eq-eqb, ne_eqb}
 use Rattle.buffers.specs.Splice.{has_room, if_room, Wrote}
 use Rattle.buffers.specs.Text.{ascii}
 use Rattle.buffers.specs.Rows.{row_of}
 use Rattle.buffers.proofs.Chunks.{chunk_at}
-use Rattle.buffers.proofs.Splices.{wrote_none, wrote_all, Writing, writing_part, writing_done}
+use Rattle.buffers.proofs.Splices.{wrote_all, Writing, writing_part, writing_done}
 use Rattle.text.specs.Listing.{after, listing_of, tail_of}
 
 -- the listing of four bytes and more is the line of the first four, and the lines of the others
@@ -81,9 +81,9 @@ nothing old at need = empty (if_room old at need []) (at_most old at need [])
 -- ---- the tail
 
 -- no bytes over: nothing is written
-pub no_tail : (old : List ℕ) (at need bytes : ℕ) → bytes % 4 ≡ 0 → Wrote old at (if_room old at need (tail_of bytes)) old at
+pub no_tail : (old : List ℕ) (at need bytes : ℕ) → bytes % 4 ≡ 0 → if_room old at need (tail_of bytes) ≡ []
 unfolding tail_of
-no_tail old at need bytes h = rw (eq-eqb (bytes % 4) 0 h, nothing) (wrote_none old at)
+no_tail old at need bytes h = rw (eq-eqb (bytes % 4) 0 h, nothing)
 
 -- bytes over: the line
 pub some_tail : (bytes : ℕ) → (bytes % 4 ≡ 0 → ⊥) → tail_of bytes ≡ ascii "tail " ++ row_of (bytes % 4 ∷ [])

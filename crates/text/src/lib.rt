@@ -72,6 +72,7 @@ fn put_count(out: &mut [u8], at: usize, word: &[u8], n: u64) -> usize
 
 // The end of the listing of an input of `bytes` bytes, at index `at`. It asks for 26 bytes. Answers the index behind it; without that
 // room, and where no byte is over, it is `at`.
+#[tactic(auto, using(crate::proofs::Listings::no_tail, crate::proofs::Listings::some_tail, buffers::proofs::Splices::splice_none))]
 pub fn put_tail(out: &mut [u8], at: usize, bytes: usize) -> usize
     ensures wrote { Wrote out.old at (if_room out.old at 26 (tail_of bytes)) out.new result }
     ensures upper_bound { result ≤ at + 26 }
@@ -84,6 +85,7 @@ pub fn put_tail(out: &mut [u8], at: usize, bytes: usize) -> usize
 }
 
 // The panel's first line, at index `at`. Answers the index behind it; without room for it all it is `at`.
+#[tactic(auto, using(crate::proofs::Listings::at_most))]
 pub fn put_columns(out: &mut [u8], at: usize) -> usize
     ensures wrote { Wrote out.old at (if_room out.old at (length columns) columns) out.new result }
     ensures upper_bound { result ≤ at + length columns }
@@ -96,6 +98,7 @@ pub fn put_columns(out: &mut [u8], at: usize) -> usize
 }
 
 // The numbers of a place, column by column.
+#[tactic(auto, using(bits::proofs::Tests::bool_byte_lem))]
 fn place_row(place: usize, p: Port, levels: u8, driven: u8) -> [u64; 20]
     ensures { result ≡ row_of_place place p levels driven }
 {

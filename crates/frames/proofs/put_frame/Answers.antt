@@ -1,16 +1,8 @@
 -- The goals of `frames::put_frame`: without room, without a change, and with a text. Assumes nothing.
 use Rattle.std.proofs.Common.{sym, ◌∙◌, arith, rules}
-use Rattle.buffers.proofs.Splices.{wrote_none, wrote_nothing, wrote_in_room, wrote_then}
-use Rattle.frames.proofs.Changes.{no_frame, frame}
+use Rattle.buffers.proofs.Splices.{wrote_in_room, wrote_then}
+use Rattle.frames.proofs.Changes.{frame}
 use Rattle.frames.proofs.put_frame.Goals as goal
-
-pub returns-then-out-lt49-clause-wrote : goal.returns-then-out-lt49-clause-wrote
-returns-then-out-lt49-clause-wrote c = wrote_nothing _ _ _ _ (omega arith)
-
-pub returns-then-eq-clause-wrote : goal.returns-then-eq-clause-wrote
-returns-then-eq-clause-wrote c =
-    let e = no_frame c.args.time c.args.shown c.args.values (search rules) (sym c.eq.ensures ∙ c.if-eq.true) in
-    wrote_in_room 49 (omega arith) (rw e (wrote_none _ _))
 
 pub returns-clause-wrote : goal.returns-clause-wrote
 returns-clause-wrote c =
