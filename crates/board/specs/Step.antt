@@ -19,6 +19,8 @@ use Rattle.chain.specs.Chain.{asker, asks, side_of, acknowledged, retired}
 use Rattle.chain.specs.Decode.{shut, next_of, reti_of}
 use Rattle.board.specs.declared.Board.{Board}
 use Rattle.board.specs.declared.Answer.{Answer}
+use Rattle.board.specs.declared.Code.{Code}
+use Rattle.board.specs.declared.Code.TheVariants.{Done, Data, Answered, Nobody}
 use Rattle.board.specs.declared.Doing.{Doing}
 use Rattle.board.specs.declared.Doing.TheVariants.{Reset, Fetch, Acknowledge, At}
 use Rattle.board.specs.Board.{ports, port_at, within, sound_board, request_of}
@@ -35,6 +37,13 @@ value_of e = get_or e 2 0
 
 abbrev pub last_of : List ℕ → ℕ
 last_of e = get_or e 3 0
+
+-- ---- the codes of an event that is not refused: 0 done; 1 data read; 2 acknowledge, a port answers; 3 "acknowledge, nobody"
+abbrev pub byte_of : Code → ℕ
+byte_of Done = 0
+byte_of Data = 1
+byte_of Answered = 2
+byte_of Nobody = 3
 
 -- ---- refusals: a line of the table is a test and its code. The first that is true decides; 0 if none is
 pub data Line : Type 0 where

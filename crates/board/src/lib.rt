@@ -6,7 +6,7 @@
 ghost use Rattle.std.specs.Prelude.{◌≡◌, length};
 ghost use Rattle.chain.specs.Chain.{most};
 ghost use Rattle.board.specs.Board.{made_by, fresh_of, told_by, lines_of};
-ghost use Rattle.board.specs.Step.{bytes_of};
+ghost use Rattle.board.specs.Step.{byte_of, bytes_of};
 ghost use Rattle.board.specs.Halves.{acted_of, stirs_port, stirs, seen_of, noted_of};
 
 use chain::{Decoder, MOST, Marks};
@@ -31,6 +31,30 @@ pub struct Answer {
     pub place: u8,
     pub value: u8,
     pub request: u8,
+}
+
+// The code of an event that was not refused: it was done, or it was a read or an acknowledge, which a port answers or nobody.
+#[derive(Clone, Copy)]
+pub enum Code {
+    Done,
+    Data,
+    Answered,
+    Nobody,
+}
+
+impl From<Code> for u8 {
+    ghost from_gives = { λ c n. n ≡ byte_of c };
+
+    fn from(c: Code) -> u8
+        ensures { result ≡ byte_of c }
+    {
+        match c {
+            Code::Done => 0,
+            Code::Data => 1,
+            Code::Answered => 2,
+            Code::Nobody => 3,
+        }
+    }
 }
 
 impl From<Answer> for [u8; 4] {
@@ -107,13 +131,13 @@ impl Touched {
         ensures { result ≡ acted_of c place value outcome }
     {
         let mut chip = c;
-        let mut code = 0;
+        let mut code = Code::Done.into();
         let mut shown = value;
         match outcome {
             Ok(acted) => {
                 chip = acted.chip;
                 if let Some(byte) = acted.shown {
-                    code = 1;
+                    code = Code::Data.into();
                     shown = byte;
                 }
             }

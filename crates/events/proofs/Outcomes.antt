@@ -10,13 +10,13 @@ use Rattle.chip.specs.declared.Chip.{Chip}
 use Rattle.chip.specs.Chip.{Side}
 use Rattle.events.specs.declared.Event.{Event}
 use Rattle.events.specs.declared.Event.TheVariants.{Control, Write, Read, Strobe, Outside}
-use Rattle.events.specs.Events.{heard}
+use Rattle.events.specs.Events.{heard, word_taken}
 use Rattle.events.specs.Act.{Acting, step_word, step, act_of, word_outcome, outcome_of, acting_from}
 
 abbrev acting : Chip → ℕ → ℕ → Acting
 acting c code value = record { chip = c; code = code; value = value }
 
-word_acting : (s : Side) (h : Result Word Refusal) (v : ℕ) (c : Chip) → acting_from c v (word_outcome s h c) ≡ acting (step_word s h c) (code_of h) v
+word_acting : (s : Side) (h : Result Word Refusal) (v : ℕ) (c : Chip) → acting_from c v (word_outcome (word_taken s h c)) ≡ acting (step_word s h c) (code_of h) v
 word_acting s (Ok w) v c = refl
 word_acting s (Err r) v c = refl
 

@@ -12,7 +12,7 @@ use Rattle.chip.specs.Chip.{Side, port, settle}
 use Rattle.events.specs.declared.Acted.{Acted}
 use Rattle.events.specs.declared.Event.{Event}
 use Rattle.events.specs.declared.Event.TheVariants.{Control, Write, Read, Strobe, Outside}
-use Rattle.events.specs.Events.{heard, obey, changed}
+use Rattle.events.specs.Events.{heard, obey, control_of, changed}
 
 -- document 01, "Records": 3 control write, 4 data write, 5 data read, 6 strobe level, 7 outside levels of the eight lines
 unfoldable pub event_of : ℕ → ℕ → Event
@@ -68,12 +68,12 @@ abbrev pub quiet : Result Chip Refusal → Result Acted Refusal
 quiet (Ok c) = done c None
 quiet (Err r) = Err r
 
-abbrev pub word_outcome : Side → Result Word Refusal → Chip → Result Acted Refusal
-word_outcome s (Ok w) c = done (settle (obey s w c)) None
-word_outcome s (Err r) c = Err r
+abbrev pub word_outcome : Result Chip Refusal → Result Acted Refusal
+word_outcome (Ok c) = done (settle c) None
+word_outcome (Err r) = Err r
 
 unfoldable pub outcome_of : Side → Event → Chip → Result Acted Refusal
-outcome_of s (Control v) c = word_outcome s (heard s v c) c
+outcome_of s (Control v) c = word_outcome (control_of s v c)
 outcome_of s (Write v) c = done (settle (changed s (Write v) c)) None
 outcome_of s Read c = done (settle (changed s Read c)) (Some (shown_of (port s c)))
 outcome_of s (Strobe level) c = done (settle (changed s (Strobe level) c)) None

@@ -27,6 +27,14 @@ abbrev pub obey : Side → Word → Chip → Chip
 obey A w c = record { a = obeyed false c.a w; b = recoupled c.a.mode (obeyed false c.a w).mode c.b }
 obey B w c = record { a = c.a; b = obeyed (two_way c) c.b w }
 
+-- the chip that obeys, or the refusal
+abbrev pub word_taken : Side → Result Word Refusal → Chip → Result Chip Refusal
+word_taken s (Ok w) c = Ok (obey s w c)
+word_taken s (Err r) c = Err r
+
+abbrev pub control_of : Side → ℕ → Chip → Result Chip Refusal
+control_of s v c = word_taken s (heard s v c) c
+
 -- a refused byte changes nothing
 abbrev pub obey_heard : Side → Result Word Refusal → Chip → Chip
 obey_heard s (Ok w) c = obey s w c

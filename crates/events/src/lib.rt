@@ -5,7 +5,7 @@
 ghost use Rattle.std.specs.Prelude.{◌≡◌};
 ghost use Rattle.chip.specs.Chip.{side};
 ghost use Rattle.events.specs.declared.Event.TheVariants.{Control, Write, Read, Strobe, Outside};
-ghost use Rattle.events.specs.Events.{obey, changed};
+ghost use Rattle.events.specs.Events.{obey, control_of, changed};
 ghost use Rattle.events.specs.Act.{event_of, outcome_of};
 
 use chip::Chip;
@@ -52,7 +52,7 @@ pub struct Acted {
 }
 
 // One port obeys a control word. A entering or leaving mode 2 also lowers B's Ready.
-pub fn obey_word(c: Chip, on_b: bool, w: Word) -> Chip
+fn obey_word(c: Chip, on_b: bool, w: Word) -> Chip
     ensures { result ≡ obey (side on_b) w c }
 {
     let a = c.a;
@@ -72,6 +72,19 @@ pub fn obey_word(c: Chip, on_b: bool, w: Word) -> Chip
             ..b
         },
     }
+}
+
+// A control byte. A refusal leaves at once, with the chip as it was.
+#[tactic(auto, using(crate::proofs::Ways::refused, crate::proofs::Ways::obeyed))]
+pub fn control(c: Chip, on_b: bool, value: u8) -> Result<Chip, Refusal>
+    ensures { result ≡ control_of (side on_b) value c }
+{
+    let p = chip::port_of(c, on_b);
+    let heard = words::hear(p.awaiting, on_b, value);
+    let Ok(word) = heard else {
+        return Err(heard.unwrap_err());
+    };
+    Ok(obey_word(c, on_b, word))
 }
 
 // The CPU writes data to a port.
@@ -124,17 +137,16 @@ fn outside_lines(c: Chip, on_b: bool, value: u8) -> Chip
 }
 
 // One event at one port of the chip, and the settling after it. A refused word leaves at once.
-#[tactic(auto, using(crate::proofs::Ways::act_control, crate::proofs::Ways::act_refused), unfolding(crate::specs::Act::outcome_of))]
+#[tactic(auto, unfolding(crate::specs::Act::outcome_of))]
 pub fn act(c: Chip, on_b: bool, event: Event) -> Result<Acted, Refusal>
     ensures { result ≡ outcome_of (side on_b) event c }
 {
-    let p = chip::port_of(c, on_b);
     let mut shown = None;
     let d = match event {
-        Event::Control(value) => obey_word(c, on_b, words::hear(p.awaiting, on_b, value)?),
+        Event::Control(value) => control(c, on_b, value)?,
         Event::Write(value) => write_data(c, on_b, value),
         Event::Read => {
-            shown = Some(port::shown(p));
+            shown = Some(port::shown(chip::port_of(c, on_b)));
             read_data(c, on_b)
         }
         Event::Strobe(level) => strobe_line(c, on_b, level),

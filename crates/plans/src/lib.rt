@@ -6,7 +6,7 @@ ghost use Rattle.std.specs.Prelude.{◌≡◌};
 ghost use Rattle.board.specs.Step.{decoder_after};
 ghost use Rattle.board.specs.Halves.{read_of, freed_of, fetch_plan, acknowledge_plan, plan_of};
 
-use board::{Answer, Doing, Look, Plan, Sweep, Touch};
+use board::{Answer, Code, Doing, Look, Plan, Sweep, Touch};
 use chain::{Decoder, Marks};
 use events::Event;
 use refusals::Refusal;
@@ -78,7 +78,7 @@ fn plan_fetch(decoder: Decoder, look: Look, byte: u8) -> Plan
             touch: Touch::Release,
         },
         None => Plan::Nothing(Answer {
-            code: 0,
+            code: Code::Done.into(),
             place: 0,
             value: byte,
             request: look.request,
@@ -97,7 +97,7 @@ fn plan_acknowledge(request: u8) -> Plan
             touch: Touch::Serve,
         },
         None => Plan::Nothing(Answer {
-            code: 3,
+            code: Code::Nobody.into(),
             place: 0,
             value: 255,
             request: request,

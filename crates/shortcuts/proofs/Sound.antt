@@ -1,6 +1,6 @@
 -- One event at a sound chip, with no more settling than it can need, is the chip's step.
 -- Assumes nothing.
-use Rattle.std.specs.Prelude.{Some, None, Result, Ok, if◌then◌else◌}
+use Rattle.std.specs.Prelude.{Some, None, Result, Ok, Err, if◌then◌else◌}
 use mathlib.Core.Path.{◌≡◌, refl, sym, ap, ap₂, ◌∙◌}
 use mathlib.Core.Bool.{Bool, true, false, ◌&&◌, ◌||◌, not, beq}
 use Prim.Native.Nat.{ℕ}
@@ -12,18 +12,17 @@ use Rattle.port.specs.Sound.{rests_of}
 use Rattle.port.specs.declared.Port.{Port}
 use Rattle.port.proofs.Rest.{rests_settled}
 use Rattle.refusals.specs.declared.Refusal.{Refusal}
-use Rattle.words.specs.Words.{heard_of, obeyed}
+use Rattle.words.specs.Words.{obeyed}
 use Rattle.words.specs.declared.Word.{Word}
 use Rattle.words.specs.declared.Word.TheVariants.{Vector, Mode, Interrupt, Enable, Select, Mask}
 use Rattle.chip.specs.declared.Chip.{Chip}
 use Rattle.chip.specs.Chip.{Side, A, B, side, port, put, two_way, off, follows, settle}
 use Rattle.chip.specs.Sound.{sound_chip}
 use Rattle.chip.proofs.Keep.{apart, rest_same}
-use Rattle.events.proofs.Ways as ways
 use Rattle.events.specs.declared.Acted.{Acted}
 use Rattle.events.specs.declared.Event.TheVariants.{Control, Write, Read, Strobe, Outside}
-use Rattle.events.specs.Events.{acts, obey, changed}
-use Rattle.events.specs.Act.{step, done, outcome_of}
+use Rattle.events.specs.Events.{acts, heard, obey, word_taken, control_of, changed}
+use Rattle.events.specs.Act.{step, done, word_outcome, outcome_of}
 use Rattle.shortcuts.specs.Follow.{followed}
 
 abbrev made : Port → Port → Chip
@@ -137,11 +136,19 @@ settled_b : (s : Bool) (w : Word) (c d : Chip) → s ≡ true → d ≡ obey (si
     → made d.a (settled (follows B d) (not (d.a.mode is 2)) d.b) ≡ settle d
 settled_b s w c d b q g = rw (q, b) (ap (λ (x : Port). made x (settle (obey B w c)).b) (sym (a_rests c w g)))
 
-pub word_b : (s : Bool) (v : ℕ) (c d : Chip) (h : Result Word Refusal) (f : Bool) (p q : Port) (w : Word) → s ≡ true → p ≡ port (side s) c
-    → h ≡ heard_of p.awaiting s v → h ≡ Ok w → d ≡ obey (side s) w c → f ≡ follows B d → q ≡ settled f (not (d.a.mode is 2)) d.b → sound_chip c ≡ true
+word_to_b : (s : Bool) (c d : Chip) (h : Result Word Refusal) (f : Bool) (q : Port) → s ≡ true → Ok d ≡ word_taken (side s) h c
+    → f ≡ follows B d → q ≡ settled f (not (d.a.mode is 2)) d.b → sound_chip c ≡ true
+    → ◌≡◌ {A = Result Acted Refusal} (Ok (record { chip = made d.a q; shown = None })) (word_outcome (word_taken (side s) h c))
+word_to_b s c d (Ok w) f q b e k j g =
+    let o : d ≡ obey (side s) w c = cc in
+    rw (j, k, settled_b s w c d b o g, o)
+word_to_b s c d (Err r) f q b e k j g = cc
+
+pub word_b : (s : Bool) (v : ℕ) (c d : Chip) (r : Result Chip Refusal) (f : Bool) (q : Port) → s ≡ true → r ≡ control_of (side s) v c → r ≡ Ok d
+    → f ≡ follows B d → q ≡ settled f (not (d.a.mode is 2)) d.b → sound_chip c ≡ true
     → ◌≡◌ {A = Result Acted Refusal} (Ok (record { chip = made d.a q; shown = None })) (outcome_of (side s) (Control v) c)
 unfolding outcome_of
-word_b s v c d h f p q w b i e t o j k g = rw (k, j, settled_b s w c d b o g) (ways.act_control s v c d p w i (sym t ∙ e) o)
+word_b s v c d r f q b e i k j g = word_to_b s c d (heard (side s) v c) f q b (sym i ∙ e) k j g
 
 -- ---- data
 pub write_is : (c : Chip) (s : Bool) (v : ℕ) (d : Chip) → d ≡ changed (side s) (Write v) c → sound_chip c ≡ true → d ≡ step (side s) (Write v) c

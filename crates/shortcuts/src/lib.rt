@@ -84,13 +84,11 @@ pub fn read(c: Chip, on_b: bool) -> Acted
 }
 
 // A control byte to A may couple B anew, so both settle. One to B leaves A as it was. A refused word leaves at once.
-#[tactic(auto, using(events::proofs::Ways::act_refused, events::proofs::Ways::act_control), unfolding(events::specs::Act::outcome_of))]
+#[tactic(auto, unfolding(events::specs::Act::outcome_of))]
 pub fn control(c: Chip, on_b: bool, value: u8) -> Result<Chip, Refusal>
     ensures { sound_chip c ≡ true → quiet result ≡ outcome_of (side on_b) (Control value) c }
 {
-    let p = chip::port_of(c, on_b);
-    let w = words::hear(p.awaiting, on_b, value)?;
-    let d = events::obey_word(c, on_b, w);
+    let d = events::control(c, on_b, value)?;
     if on_b {
         return Ok(Chip {
             a: d.a,

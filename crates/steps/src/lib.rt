@@ -5,7 +5,7 @@
 ghost use Rattle.std.specs.Prelude.{◌≡◌};
 ghost use Rattle.board.specs.Halves.{touched_of, sweep_of, freed_chips, swept_of, advanced, changed_of, with_swept, carried, advanced_of};
 
-use board::{Answer, Board, Look, Plan, Sweep, Touch, Touched};
+use board::{Answer, Board, Code, Look, Plan, Sweep, Touch, Touched};
 use chain::MOST;
 use chip::Chip;
 
@@ -18,7 +18,7 @@ fn touch(c: Chip, place: u8, what: Touch, value: u8) -> Touched
     match what {
         Touch::Release => Touched {
             chip: chip::release_port(c, on_b),
-            code: 0,
+            code: Code::Done.into(),
             place: 0,
             value: value,
         },
@@ -26,7 +26,7 @@ fn touch(c: Chip, place: u8, what: Touch, value: u8) -> Touched
             let p = chip::port_of(c, on_b);
             Touched {
                 chip: chip::serve_port(c, on_b),
-                code: 2,
+                code: Code::Answered.into(),
                 place: place,
                 value: p.vector,
             }
@@ -100,7 +100,7 @@ fn sweep_each(
         request: request,
     };
     Answer {
-        code: 0,
+        code: Code::Done.into(),
         place: 0,
         value: value,
         request: request,

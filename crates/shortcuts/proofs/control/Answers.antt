@@ -4,4 +4,4 @@ use Rattle.shortcuts.proofs.Sound.{word_b}
 use Rattle.shortcuts.proofs.control.Goals as goal
 
 pub returns-then-on_b : goal.returns-then-on_b
-returns-then-on_b c = λ h. search (word_b, c.in_ok-w.was)
+returns-then-on_b c = λ h. search (word_b, c.in_ok-d.was)
