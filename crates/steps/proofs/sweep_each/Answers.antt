@@ -14,4 +14,5 @@ loop-k-preserved c =
 
 pub returns : goal.returns
 returns c =
-    swept_is c.args.board.now c.args.free c.args.sweep _ _ _ _ _ c.freed-old.ensures (sweep_ends _ _ _ 4 c.loop-k.invariant (search rules) (omega arith)) c.caller-request.ensures
+    rw c.into.ensures
+    (swept_is c.args.board.now c.args.free c.args.sweep _ _ _ _ _ c.freed-old.ensures (sweep_ends _ _ _ 4 c.loop-k.invariant (search rules) (omega arith)) c.caller-request.ensures)
