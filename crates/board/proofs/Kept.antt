@@ -1,9 +1,10 @@
 -- What is known of the chips beside the board: its marks, its request, and whether a fetch could change it. One record on a sound board
 -- is the step, and keeps all of it.
 -- Assumes nothing.
-use Rattle.std.specs.Prelude.{Option, Some, None, if◌then◌else◌}
+use Rattle.std.specs.Prelude.{Option, Some, None, Ok, if◌then◌else◌}
+use Rattle.std.specs.Result.{is_ok}
 use mathlib.Core.Path.{◌≡◌, refl, sym, ap, ap₂, ◌∙◌}
-use mathlib.Core.Bool.{Bool, true, false, ◌&&◌, ◌||◌, not}
+use mathlib.Core.Bool.{Bool, true, false, ◌&&◌, ◌||◌, not, true≢false}
 use mathlib.Core.List.{List, [], ◌∷◌, map}
 use Prim.Native.Nat.{ℕ, zero, suc, ◌*◌, ◌<◌}
 use native.Mathlib.Omega.{arith}
@@ -21,6 +22,7 @@ use Rattle.chain.specs.Decode.{reti_of}
 use Rattle.chain.specs.Marks.{Marks, marked_of, marks_of, caller_of}
 use Rattle.chain.proofs.Marks.{caller_is, holder_is, marks_set, renewed_is}
 use Rattle.board.specs.declared.Board.{Board}
+use Rattle.board.specs.declared.Doing.{Doing}
 use Rattle.board.specs.declared.Look.{Look}
 use Rattle.board.specs.declared.Sweep.{Sweep}
 use Rattle.board.specs.declared.Sweep.TheVariants.{Clear, Wake}
@@ -29,8 +31,9 @@ use Rattle.board.specs.declared.Plan.TheVariants.{Nothing, One, Each}
 use Rattle.board.specs.declared.Touched.{Touched}
 use Rattle.board.specs.Board.{there, ports, sound_board}
 use Rattle.board.specs.Step.{kind_of, place_of, value_of, last_of, doing_of, Stepped, step_of}
-use Rattle.board.specs.Halves.{stirs, noted_of, early_at, freed_of, release_plan, fetch_plan, serve_plan, acknowledge_plan, plan_of, index_of, chip_at, touched_of, sweep_of, freed_chips, swept_of, changed_of, with_swept, carried, listened, advanced_of, stepped}
+use Rattle.board.specs.Halves.{stirs, noted_of, early_at, read_of, freed_of, release_plan, fetch_plan, serve_plan, acknowledge_plan, plan_of, index_of, chip_at, touched_of, sweep_of, freed_chips, swept_of, changed_of, with_swept, carried, listened, advanced_of, stepped}
 use Rattle.board.proofs.Tables.{place_there, read_is, by_read}
+use Rattle.board.proofs.Ways.{value_or}
 use Rattle.board.proofs.There.{take_within}
 use Rattle.board.proofs.Quick.{step_sound}
 use Rattle.board.proofs.Ports.{Still, neither, quiet_chip}
@@ -76,7 +79,7 @@ set_still : (l : List Chip) (k : ℕ) (c : Chip) → Still l → chip.fetch c �
 set_still l k c h e = map_set chip.fetch l k c ∙ ap₂ (λ (m : List Chip) (x : Chip). set m k x) h e
 
 -- the place of a plan is on the board
-abbrev Within : ℕ → Plan → Type 0
+abbrev pub Within : ℕ → Plan → Type 0
 Within n (Nothing a) = n ≡ n
 Within n (One place touch) = index_of place < n
 Within n (Each freed sweep) = n ≡ n
@@ -152,14 +155,18 @@ module _ (b : Board) (l : Look) (k : Kept b l) where
         (by_cases (kind_of e is 1) (λ j. rw j (fetch_within (value_of e))) (λ j. rw j
         (by_cases (kind_of e is 2) (λ m. rw m acknowledge_within) (λ m. rw m (place_within (place_of e) h))))))
 
+    pub planned_within : (g : Doing) → read_of b.size e ≡ Ok g → Within b.size (plan_of b.decoder (looked b l.due) g)
+    planned_within g i =
+        by_read b.size e (λ r h z. absurd (true≢false (ap is_ok (sym i ∙ h))))
+        (λ a. rw (ap (value_or g) (sym i ∙ a)) (doing_within (place_there b.size (kind_of e) (place_of e) (value_of e) (last_of e) (eq-eqb (early_at b.size e) 0 (sym (read_is b.size e) ∙ ap code_of a)))))
+
     still_known : Known (advanced_of b l e).board (advanced_of b l e).look
     unfolding advanced_of
     still_known =
         by_read b.size e (λ r h z. rw h k.known)
         (λ a. rw a
         (carried_known (listened b (doing_of e)) l (record { row = k.known.row; marked = k.known.marked; asked = k.known.asked; still = k.known.still })
-        (plan_of b.decoder l (doing_of e)) (value_of e)
-        (rw look_is (doing_within (place_there b.size (kind_of e) (place_of e) (value_of e) (last_of e) (eq-eqb (early_at b.size e) 0 (sym (read_is b.size e) ∙ ap code_of a)))))))
+        (plan_of b.decoder l (doing_of e)) (value_of e) (rw look_is (planned_within (doing_of e) a))))
 
     module _ (n : length e ≡ 4) where
       pub advances : stepped (advanced_of b l e) ≡ step_of b e

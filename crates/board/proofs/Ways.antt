@@ -25,16 +25,15 @@ pub record Sound (b : Board) (l : Look) : Type 0 where
   pub sound : sound_board b ≡ true
   pub look : l ≡ look_of b.size b.chips
 
-value_or : {A E : Type 0} → A → Result A E → A
+abbrev pub value_or : {A E : Type 0} → A → Result A E → A
 value_or d (Ok x) = x
 value_or d (Err r) = d
 
-error_or : {A E : Type 0} → E → Result A E → E
+abbrev pub error_or : {A E : Type 0} → E → Result A E → E
 error_or d (Ok x) = d
 error_or d (Err r) = r
 
 ok_look : (t : Bool) (l m : Look) → Ok l ≡ (if t then Ok m else Err Unsound) → (t ≡ true) × (l ≡ m)
-unfolding value_or
 ok_look true l m e = (refl, ap (value_or m) e)
 ok_look false l m e = absurd (true≢false (ap is_ok e))
 
@@ -43,7 +42,6 @@ unfolding seen_of
 seen_ok b l e = let x = ok_look (sound_board b) l (look_of b.size b.chips) e in record { sound = x.0; look = x.1 }
 
 err_look : (t : Bool) (r : Refusal) (m : Look) → Err r ≡ (if t then Ok m else Err Unsound) → (t ≡ false) × (r ≡ Unsound)
-unfolding error_or
 err_look false r m e = (refl, ap (error_or r) e)
 err_look true r m e = absurd (true≢false (sym (ap is_ok e)))
 

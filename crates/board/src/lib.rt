@@ -58,6 +58,8 @@ impl From<Code> for u8 {
 }
 
 impl From<Answer> for [u8; 4] {
+    ghost from_gives = { λ a bytes. bytes ≡ bytes_of a };
+
     #[tactic(auto, unfolding(crate::specs::Step::bytes_of))]
     fn from(a: Answer) -> [u8; 4]
         ensures { result ≡ bytes_of a }
@@ -127,6 +129,7 @@ pub struct Touched {
 impl Touched {
     // What came of an event of kinds 3 to 7 at the chip `c`.
     #[tactic(auto, unfolding(crate::specs::Halves::acted_of))]
+    #[inline(always)]
     pub fn acted(c: Chip, place: u8, value: u8, outcome: Result<Acted, Refusal>) -> Touched
         ensures { result ≡ acted_of c place value outcome }
     {
@@ -185,6 +188,7 @@ pub fn stirred(c: Chip) -> bool
 impl Look {
     // What is known where the chip `k` is now `c`.
     #[tactic(auto, unfolding(crate::specs::Halves::noted_of))]
+    #[inline(always)]
     pub fn noting(self, k: usize, c: Chip) -> Look
         ensures { result ≡ noted_of self k c }
     {

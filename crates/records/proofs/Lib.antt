@@ -1,6 +1,3 @@
 pub mod Turns
-pub mod Kept
-pub mod Ways
 pub mod Whole
-pub mod Fast
-pub mod Places
+pub mod Ways

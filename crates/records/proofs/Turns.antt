@@ -10,9 +10,8 @@ use lib.Seq.{drop-drop}
 use Rattle.buffers.specs.Splice.{splice}
 use Rattle.buffers.proofs.Splices.{splice_next, splice_none, length_splice}
 use Rattle.board.specs.declared.Board.{Board}
-use Rattle.board.specs.declared.Stepped.{Stepped}
-use Rattle.board.specs.Step.{step_of}
-use Rattle.records.specs.Records.{records, steps_of, answers_of, bytes_of}
+use Rattle.board.specs.Step.{bytes_of, Stepped, step_of}
+use Rattle.records.specs.Records.{records, steps_of, answers_of}
 
 -- ---- records
 -- four bytes or more: the first record, and the records of the rest

@@ -1,97 +1,178 @@
--- The three ways of a record through the loop, each a turn of the run that keeps what the locals keep.
+-- What a record comes to through the loop: in any case it is a step on a sound board, and keeps what is known of the board.
 -- Assumes nothing.
-use mathlib.Core.Path.{◌≡◌, sym, ap, ◌∙◌}
-use mathlib.Core.Bool.{Bool, true, false, ◌||◌, not}
+use Rattle.std.specs.Prelude.{Ok}
+use mathlib.Core.Path.{◌≡◌, refl, sym, ap, ◌∙◌}
+use mathlib.Core.Bool.{Bool, true, false, ◌&&◌, not}
 use mathlib.Core.List.{List, [], ◌∷◌}
-use Prim.Native.Nat.{ℕ, ◌+◌, ◌-◌, ◌*◌, ◌≤◌, ◌<◌}
-use native.Mathlib.Nat.{add-sub_cancel_left}
+use Prim.Native.Nat.{ℕ, zero, suc, ◌+◌, ◌*◌, ◌/◌, ◌≤◌, ◌<◌}
+use native.Mathlib.Nat.{add-zero, not-suc-le-zero, le_of_suc-le-suc}
 use native.Mathlib.Omega.{arith}
-use lib.Dec.{ltb}
-use lib.ListN.{length, take, drop, get_or}
-use lib.Seq.{get_or-take, get_or-drop}
-use borrow.Author.Tests.{lt-ltb}
+use lib.Dec.{ltb, leb}
+use lib.ListN.{length, take, drop, get_or, set, length-take, length-drop}
+use lib.Seq.{get_or-take, get_or-drop, get_or-set_same}
+use borrow.Author.Tests.{lt-ltb, ltb-true, leb-true, eqb-true}
+use Rattle.bits.specs.Bits.{◌is◌}
+use Rattle.bits.proofs.Logic.{both}
 use Rattle.buffers.specs.Splice.{splice}
-use Rattle.chain.specs.Chain.{most}
-use Rattle.chain.specs.Marks.{Marks, caller_of}
+use Rattle.chip.specs.declared.Chip.{Chip}
+use Rattle.chip.specs.Sound.{sound_chip}
+use Rattle.events.specs.declared.Event.{Event}
+use Rattle.events.specs.Act.{Acting, act_of}
+use Rattle.events.proofs.Outcomes.{acting_is}
+use Rattle.chain.specs.declared.Decoder.{Decoder}
+use Rattle.chain.specs.Chain.{most, side_of}
+use Rattle.chain.specs.Decode.{next_of, reti_of}
 use Rattle.board.specs.declared.Board.{Board}
 use Rattle.board.specs.declared.Answer.{Answer}
+use Rattle.board.specs.declared.Doing.TheVariants.{At}
 use Rattle.board.specs.declared.Look.{Look}
-use Rattle.board.specs.declared.Plan.{Plan}
-use Rattle.board.specs.declared.Changed.{Changed}
-use Rattle.board.specs.declared.Swept.{Swept}
-use Rattle.board.specs.Board.{there, sound_board}
-use Rattle.board.specs.Step.{value_of}
-use Rattle.board.specs.Halves.{look_of, plan_of, changed_of, blank, swept_of, wholly, singly, idly}
-use Rattle.board.proofs.Ways.{off, on}
-use Rattle.board.proofs.Steps.{quiet}
-use Rattle.records.specs.Records.{bytes_of}
+use Rattle.board.specs.declared.Touched.{Touched}
+use Rattle.board.specs.Board.{there, sound_all, sound_board}
+use Rattle.board.specs.Step.{doing_of, answer, bytes_of}
+use Rattle.board.specs.Halves.{noted_of, read_of, freed_of, fetch_plan, blank, index_of, chip_at, touched_by, acted_of, touched_of, Advanced, advanced, changed_of, carried, advanced_of, stepped}
+use Rattle.board.proofs.Ways.{off}
+use Rattle.board.proofs.Quick.{parts}
+use Rattle.board.proofs.Halves.{size_fits}
+use Rattle.board.proofs.Kept.{Kept, planned_within, advances, keeps}
+use Rattle.records.specs.Fast.{idles_of}
 use Rattle.records.proofs.Turns.{Running, turn}
-use Rattle.records.proofs.Kept.{Kept, whole_steps, whole_keeps, idle_steps, idle_keeps, single_steps, single_keeps}
 
--- before the first record
-pub kept_begins : (b : Board) (l : Look) (r : ℕ) → l ≡ look_of b.size b.chips → sound_board b ≡ true → length b.chips ≡ most → r ≡ caller_of l.marks → Kept b l.marks r l.due
-unfolding look_of
-kept_begins b l r i s n q =
-    record {
-      sound = s;
-      row = n;
-      marked = ap (λ (x : Look). x.marks) i;
-      asked = q;
-      still = λ z. quiet (there b) (sym (ap (λ (x : Look). x.due) i) ∙ z);
-    }
+-- ---- the bytes of record i
+module _ (es : List ℕ) (i : ℕ) where
+  abbrev pub record_at : List ℕ
+  record_at = take 4 (drop (4 * i) es)
 
--- the record's part of the events, and that its value is a byte
-pub part_is : (es : List ℕ) (i : ℕ) → take (4 * i + 4 - 4 * i) (drop (4 * i) es) ≡ take 4 (drop (4 * i) es)
-part_is es i = rw (add-sub_cancel_left (4 * i) 4)
+  byte_at : (k : ℕ) → k < 4 → get_or record_at k 0 ≡ get_or es (4 * i + k) 0
+  byte_at k h = get_or-take 4 (drop (4 * i) es) k 0 h ∙ get_or-drop (4 * i) es k 0
 
-pub byte_in_lem : (es : List ℕ) (i : ℕ) → get_or es (4 * i + 2) 0 < 256 → ltb (value_of (take 4 (drop (4 * i) es))) 256 ≡ true
-byte_in_lem es i h = rw (get_or-take 4 (drop (4 * i) es) 2 0 (omega arith), get_or-drop (4 * i) es 2 0) (lt-ltb (get_or es (4 * i + 2) 0) 256 h)
+  kind_at : get_or record_at 0 0 ≡ get_or es (4 * i) 0
+  kind_at = byte_at 0 (omega arith) ∙ ap (λ (n : ℕ). get_or es n 0) (add-zero (4 * i))
 
-abbrev four : Answer → List ℕ
-four a = a.code ∷ a.place ∷ a.value ∷ a.request ∷ []
+  abbrev pub event_at : List ℕ
+  event_at = get_or es (4 * i) 0 ∷ get_or es (4 * i + 1) 0 ∷ get_or es (4 * i + 2) 0 ∷ get_or es (4 * i + 3) 0 ∷ []
+
+  pub event_is : 4 * i + 4 ≤ length es → event_at ≡ record_at
+  event_is h = rw (← kind_at, ← byte_at 1 (omega arith), ← byte_at 2 (omega arith), ← byte_at 3 (omega arith)) (four record_at (omega (arith, h, length-take 4 (drop (4 * i) es), length-drop (4 * i) es)))
+    where
+      four : (xs : List ℕ) → length xs ≡ 4 → (get_or xs 0 0 ∷ get_or xs 1 0 ∷ get_or xs 2 0 ∷ get_or xs 3 0 ∷ []) ≡ xs
+      four [] h = absurd (omega (arith, h))
+      four (a ∷ []) h = absurd (omega (arith, h))
+      four (a ∷ b ∷ []) h = absurd (omega (arith, h))
+      four (a ∷ b ∷ c ∷ []) h = absurd (omega (arith, h))
+      four (a ∷ b ∷ c ∷ d ∷ []) h = refl
+      four (a ∷ b ∷ c ∷ d ∷ e ∷ xs) h = absurd (omega (arith, h))
+
+pub bytes_four : (a : Answer) (xs : List ℕ) → xs ≡ bytes_of a → length xs ≤ 4
+unfolding bytes_of
+bytes_four a xs e = rw e (omega arith)
 
 -- ---- before record i: it is there, and there is room for its answer
-pub record Going (es old : List ℕ) (start : ℕ) (b₀ : Board) (n : ℕ) (out : List ℕ) (b : Board) (marks : Marks) (request : ℕ) (due : Bool) (i : ℕ) : Type 0 where
-  pub running : Running es old start b₀ n out b i
-  pub kept : Kept b marks request due
-  pub more : i < n
-  pub events : 4 * n ≤ length es
-  pub room : 4 * (start + n) ≤ length old
+pub record Going (es old : List ℕ) (start : ℕ) (b₀ : Board) (out : List ℕ) (b : Board) (l : Look) (i : ℕ) : Type 0 where
+  pub running : Running es old start b₀ (length es / 4) out b i
+  pub kept : Kept b l
+  pub more : i < length es / 4
+  pub room : start + length es / 4 ≤ length old / 4
   pub byte : get_or es (4 * i + 2) 0 < 256
 
-module _ {es old : List ℕ} {start : ℕ} {b₀ : Board} {n : ℕ} {out : List ℕ} {b : Board} {marks : Marks} {request : ℕ} {due : Bool} {i : ℕ}
-    (g : Going es old start b₀ n out b marks request due i) (w : Plan)
-    (iw : w ≡ plan_of b.size b.decoder marks due request (take (4 * i + 4 - 4 * i) (drop (4 * i) es))) where
-  abbrev event : List ℕ
-  event = take 4 (drop (4 * i) es)
+module _ {es old : List ℕ} {start : ℕ} {b₀ : Board} {out : List ℕ} {b : Board} {l : Look} {i : ℕ} (g : Going es old start b₀ out b l i) where
+  pub room_here : 4 * (start + i) + 4 ≤ length out
+  room_here = omega (arith, g.room, g.more, g.running.long)
 
-  asks : w ≡ plan_of b.size b.decoder marks due request event
-  asks = iw ∙ ap (plan_of b.size b.decoder marks due request) (part_is es i)
+  -- any record
+  pub advance_turn : (a : Advanced) (out' : List ℕ) → a ≡ advanced_of b l (event_at es i) → out' ≡ splice out (4 * (start + i)) (bytes_of a.answer)
+      → Running es old start b₀ (length es / 4) out' a.board (i + 1) × Kept a.board a.look
+  advance_turn a out' e o =
+      let same = event_is es i (omega (arith, g.more)) in
+      let long : length (event_at es i) ≡ 4 = refl in (
+        turn es old start b₀ (length es / 4) (stepped a) out' g.running g.more (omega arith) (omega (arith, g.room))
+            (ap stepped e ∙ advances b l g.kept (event_at es i) long ∙ rw same) o,
+        rw e (keeps b l g.kept (event_at es i) long (lt-ltb (get_or es (4 * i + 2) 0) 256 g.byte)),
+      )
 
-  small : ltb (value_of event) 256 ≡ true
-  small = byte_in_lem es i g.byte
+-- ---- a fetch that changes the decoder alone
+record Idles (d : Decoder) (due : Bool) (es : List ℕ) (i : ℕ) : Type 0 where
+  there : i < length es / 4
+  kind : get_or es (4 * i) 0 ≡ 1
+  place : get_or es (4 * i + 1) 0 ≡ 0
+  last : get_or es (4 * i + 3) 0 ≡ 0
+  quiet : due ≡ false
+  plain : reti_of d (get_or es (4 * i + 2) 0) ≡ false
 
-  pub whole_turn : (s : Swept) (out' : List ℕ) → w.whole ≡ true → s ≡ swept_of b.size b.chips w → out' ≡ splice out (4 * (start + i)) (four s.answer)
-      → Running es old start b₀ n out' (wholly b w s).board (i + 1) × Kept (wholly b w s).board s.marks s.answer.request false
+idles_tell : (d : Decoder) (due : Bool) (es : List ℕ) (i : ℕ) → idles_of d due es i ≡ true → Idles d due es i
+unfolding idles_of
+idles_tell d due es i h =
+    let a = ltb i (length es / 4) in
+    let b = get_or es (4 * i) 0 is 1 in
+    let c = get_or es (4 * i + 1) 0 is 0 in
+    let e = get_or es (4 * i + 3) 0 is 0 in
+    let r = not (reti_of d (get_or es (4 * i + 2) 0)) in
+    let x₁ = both (a && b && c && e && not due) r h in
+    let x₂ = both (a && b && c && e) (not due) x₁.0 in
+    let x₃ = both (a && b && c) e x₂.0 in
+    let x₄ = both (a && b) c x₃.0 in
+    let x₅ = both a b x₄.0 in
+    record {
+      there = ltb-true i (length es / 4) x₅.0;
+      kind = eqb-true (get_or es (4 * i) 0) 1 x₅.1;
+      place = eqb-true (get_or es (4 * i + 1) 0) 0 x₄.1;
+      last = eqb-true (get_or es (4 * i + 3) 0) 0 x₃.1;
+      quiet = off due x₂.1;
+      plain = off (reti_of d (get_or es (4 * i + 2) 0)) x₁.1;
+    }
+
+pub idle_there : (d : Decoder) (due : Bool) (es : List ℕ) (i : ℕ) → idles_of d due es i ≡ true → i < length es / 4
+idle_there d due es i h = (idles_tell d due es i h).there
+
+-- a sound board has a chip
+size_some : (b : Board) → sound_board b ≡ true → 1 ≤ b.size
+size_some b s = leb-true 1 b.size (both (leb 1 b.size) (leb b.size most) (parts b s).0).0
+
+abbrev pub with_decoder : Board → Decoder → Board
+with_decoder b d = record { size = b.size; chips = b.chips; decoder = d }
+
+passes : (b : Board) (l : Look) (v : ℕ) → 1 ≤ b.size → l.due ≡ false → reti_of b.decoder v ≡ false
+    → advanced (with_decoder b (next_of b.decoder v)) l (answer 0 0 v l.request) ≡ advanced_of b l (1 ∷ 0 ∷ v ∷ 0 ∷ [])
+unfolding advanced_of read_of doing_of fetch_plan freed_of carried
+passes b l v s d r = rw (lt-ltb 0 (b.size * 2) (omega (arith, s)), d, r)
+
+module _ {es old : List ℕ} {start : ℕ} {b₀ : Board} {out : List ℕ} {b : Board} {l : Look} {i : ℕ} (g : Going es old start b₀ out b l i) where
+  pub passing_turn : (d : Decoder) (out' : List ℕ) → idles_of b.decoder l.due es i ≡ true → d ≡ next_of b.decoder (get_or es (4 * i + 2) 0)
+      → out' ≡ splice out (4 * (start + i)) (0 ∷ 0 ∷ get_or es (4 * i + 2) 0 ∷ l.request ∷ [])
+      → Running es old start b₀ (length es / 4) out' (with_decoder b d) (i + 1) × Kept (with_decoder b d) l
   unfolding bytes_of
-  whole_turn s out' t e o = (
-    turn es old start b₀ n (wholly b w s) out' g.running g.more g.events g.room (whole_steps b marks request due g.kept event small w asks s t e) o,
-    whole_keeps b marks request due g.kept event small w asks s t e,
-  )
+  passing_turn d out' t e o =
+      let k = idles_tell b.decoder l.due es i t in
+      let v = get_or es (4 * i + 2) 0 in
+      advance_turn g (advanced (with_decoder b d) l (answer 0 0 v l.request)) out'
+      (rw (e, k.kind, k.place, k.last) (passes b l v (size_some b g.kept.sound) k.quiet k.plain)) o
 
-  pub idle_turn : (out' : List ℕ) → w.whole ≡ false → not w.one ≡ true → out' ≡ splice out (4 * (start + i)) (w.code ∷ w.place ∷ w.value ∷ w.request ∷ [])
-      → Running es old start b₀ n out' (idly b w).board (i + 1) × Kept (idly b w).board marks request due
-  unfolding bytes_of
-  idle_turn out' t u o = (
-    turn es old start b₀ n (idly b w) out' g.running g.more g.events g.room (idle_steps b marks request due g.kept event small w asks t (off w.one u)) o,
-    idle_keeps b marks request due g.kept event small w asks,
-  )
+  -- ---- an event of kinds 3 to 7
+  sound_at : (cs : List Chip) (k : ℕ) → sound_all cs ≡ true → k < length cs → sound_chip (get_or cs k blank) ≡ true
+  sound_at [] k h n = absurd (not-suc-le-zero n)
+  sound_at (c ∷ cs) zero h n = (both (sound_chip c) (sound_all cs) h).0
+  sound_at (c ∷ cs) (suc k) h n = sound_at cs k (both (sound_chip c) (sound_all cs) h).1 (le_of_suc-le-suc n)
 
-  pub single_turn : (r : Changed) (out' : List ℕ) → w.whole ≡ false → not w.one ≡ false → r ≡ changed_of (get_or b.chips w.chip blank) w
-      → out' ≡ splice out (4 * (start + i)) (four r.answer)
-      → Running es old start b₀ n out' (singly b w r).board (i + 1) × Kept (singly b w r).board r.marks r.answer.request (due || r.due)
-  unfolding bytes_of
-  single_turn r out' t u e o = (
-    turn es old start b₀ n (singly b w r) out' g.running g.more g.events g.room (single_steps b marks request due g.kept event small w asks r t e) o,
-    single_keeps b marks request due g.kept event small w asks r t (on w.one u) e,
-  )
+  chip_sound : (place : ℕ) → index_of place < b.size → sound_chip (chip_at b place) ≡ true
+  chip_sound place h =
+      rw (← get_or-take b.size b.chips (index_of place) blank h)
+      (sound_at (there b) (index_of place) (parts b g.kept.sound).1
+      (omega (arith, h, length-take b.size b.chips, g.kept.known.row, size_fits b g.kept.sound g.kept.known.row)))
+
+  acts : (place : ℕ) (e : Event) (v : ℕ) → read_of b.size (event_at es i) ≡ Ok (At place e) → v ≡ get_or es (4 * i + 2) 0
+      → changed_of b l place (touched_by place (act_of (side_of place) e v (chip_at b place))) ≡ advanced_of b l (event_at es i)
+  unfolding advanced_of carried touched_of acted_of
+  acts place e v r q = rw (r, ← q) (ap (λ (t : Touched). changed_of b l place t) (ap (touched_by place) (sym (acting_is (side_of place) e v (chip_at b place)))))
+
+  pub act_turn : (place : ℕ) (e : Event) (c : Chip) (code shown : ℕ) (m : Look) (out' : List ℕ) → read_of b.size (event_at es i) ≡ Ok (At place e)
+      → (sound_chip (chip_at b place) ≡ true → record { chip = c; code = code; value = shown } ≡ act_of (side_of place) e (get_or es (4 * i + 2) 0) (chip_at b place))
+      → m ≡ noted_of l (index_of place) (get_or (set b.chips (index_of place) c) (index_of place) blank) → out' ≡ splice out (4 * (start + i)) (code ∷ place ∷ shown ∷ m.request ∷ [])
+      → Running es old start b₀ (length es / 4) out' (record { size = b.size; chips = set b.chips (index_of place) c; decoder = b.decoder }) (i + 1)
+      × Kept (record { size = b.size; chips = set b.chips (index_of place) c; decoder = b.decoder }) m
+  unfolding changed_of bytes_of
+  act_turn place e c code shown m out' r f n o =
+      let h = planned_within b l g.kept (event_at es i) (At place e) r in
+      let x = f (chip_sound place h) in
+      let k : index_of place < length b.chips = omega (arith, h, g.kept.known.row, size_fits b g.kept.sound g.kept.known.row) in
+      let s = get_or-set_same b.chips (index_of place) c blank k in
+      advance_turn g (advanced (record { size = b.size; chips = set b.chips (index_of place) c; decoder = b.decoder }) m (answer code place shown m.request)) out'
+      (rw (n, s) (ap (λ (a : Acting). changed_of b l place (touched_by place a)) x) ∙ acts place e (get_or es (4 * i + 2) 0) r refl) o

@@ -7,8 +7,8 @@ use Prim.Native.Nat.{ℕ, ◌*◌, ◌/◌, ◌%◌}
 use native.Mathlib.Omega.{arith}
 use lib.ListN.{length}
 use Rattle.board.specs.declared.Board.{Board}
-use Rattle.board.specs.Step.{step_of}
-use Rattle.records.specs.Records.{records, bytes_of, steps_of, answers_of}
+use Rattle.board.specs.Step.{bytes_of, step_of}
+use Rattle.records.specs.Records.{records, steps_of, answers_of}
 
 pub records_length : (es : List ℕ) → length (records es) ≡ length es / 4
 unfolding records

@@ -6,19 +6,19 @@ ghost use Rattle.std.specs.Prelude.{◌≡◌, true, Ok, ◌+◌, ◌*◌, ◌/�
 ghost use Rattle.buffers.specs.Splice.{splice};
 ghost use Rattle.chip.specs.Chip.{side};
 ghost use Rattle.chip.specs.Sound.{sound_chip};
-ghost use Rattle.events.specs.Act.{outcome_of};
+ghost use Rattle.events.specs.Act.{act_of};
 ghost use Rattle.chain.specs.Chain.{most};
 ghost use Rattle.board.specs.Halves.{seen_of};
 ghost use Rattle.records.specs.Records.{records, steps_of, answers_of};
-ghost use Rattle.records.specs.Fast.{idles_of};
+ghost use Rattle.records.specs.Fast.{idles_of, acting_as};
 
-use board::{Board, Doing, Look, Touched};
+use board::{Board, Doing, Look};
 use chain::{Decoder, MOST};
 use chip::Chip;
-use events::{Acted, Event};
-use refusals::Refusal;
+use events::Event;
 
 // Whether record i is there and is a fetch that changes the decoder alone.
+#[tactic(auto, using(bits::proofs::Tests::tests), unfolding(crate::specs::Fast::idles_of))]
 fn idles(events: &[u8], i: usize, decoder: Decoder, due: bool) -> bool
     ensures { result ≡ idles_of decoder due events.now i }
 {
@@ -30,21 +30,42 @@ fn idles(events: &[u8], i: usize, decoder: Decoder, due: bool) -> bool
     (events[at] == 1) & (events[at + 1] == 0) & (events[at + 3] == 0) & !due & !decoder.reti(value)
 }
 
-// An event of kinds 3 to 7 at a sound chip, with no more settling than it can need.
-fn act(c: Chip, on_b: bool, event: Event) -> Result<Acted, Refusal>
-    ensures { sound_chip c ≡ true → result ≡ outcome_of (side on_b) event c }
+// What an event of kinds 3 to 7 answers: a code and a value.
+#[derive(Clone, Copy)]
+struct Told {
+    code: u8,
+    value: u8,
+}
+
+// An event of kinds 3 to 7 at a sound chip, which changes where it lies, with no more settling than it can need.
+#[tactic(auto, unfolding(events::specs::Act::step, events::specs::Act::outcome_of, events::specs::Act::act_of))]
+fn act(c: &mut Chip, on_b: bool, event: Event, value: u8) -> Told
+    ensures { sound_chip c.old ≡ true → acting_as c.new result ≡ act_of (side on_b) event value c.old }
 {
-    let d = match event {
-        Event::Control(word) => shortcuts::control(c, on_b, word)?,
-        Event::Write(byte) => shortcuts::write(c, on_b, byte),
-        Event::Read => return Ok(shortcuts::read(c, on_b)),
-        Event::Strobe(level) => shortcuts::strobe(c, on_b, level),
-        Event::Outside(levels) => shortcuts::lines(c, on_b, levels),
+    let mut told = Told {
+        code: 0,
+        value: value,
     };
-    Ok(Acted {
-        chip: d,
-        shown: None,
-    })
+    match event {
+        Event::Control(word) => match shortcuts::control(*c, on_b, word) {
+            Ok(d) => *c = d,
+            Err(refusal) => told.code = refusal.into(),
+        },
+        Event::Write(byte) => *c = shortcuts::write(*c, on_b, byte),
+        Event::Read => {
+            let acted = shortcuts::read(*c, on_b);
+            *c = acted.chip;
+            if let Some(byte) = acted.shown {
+                told = Told {
+                    code: 1,
+                    value: byte,
+                };
+            }
+        }
+        Event::Strobe(level) => *c = shortcuts::strobe(*c, on_b, level),
+        Event::Outside(levels) => *c = shortcuts::lines(*c, on_b, levels),
+    }
+    told
 }
 
 // All the records, on a sound board with room for their answers; `seen` is a look at the board.
@@ -60,13 +81,15 @@ pub fn run_records(board: &mut Board, seen: Look, events: &[u8], answers: &mut [
     let mut i: usize = 0;
     while i < n {
         // Fetches that change the decoder alone, as long as there are such.
-        while idles(events, i, board.decoder, look.due) {
+        let mut decoder = board.decoder;
+        while idles(events, i, decoder, look.due) {
             let value = events[4 * i + 2];
             let to = 4 * (start + i);
             i += 1;
-            board.decoder = board.decoder.next(value);
+            decoder = decoder.next(value);
             buffers::put_record(&mut answers[to..], [0, 0, value, look.request]);
         }
+        board.decoder = decoder;
         if i >= n {
             break;
         }
@@ -74,20 +97,18 @@ pub fn run_records(board: &mut Board, seen: Look, events: &[u8], answers: &mut [
         let to = 4 * (start + i);
         let event = [events[at], events[at + 1], events[at + 2], events[at + 3]];
         i += 1;
-        let answer = match plans::read_event(board.size, event) {
-            // Kinds 3 to 7 change their chip where it lies.
-            Ok(Doing::At(place, what)) => {
-                let c = board.chips[place as usize / 2 % MOST];
-                let outcome = act(c, place % 2 == 1, what);
-                steps::put(
-                    board,
-                    &mut look,
-                    place,
-                    Touched::acted(c, place, event[2], outcome),
-                )
-            }
-            _ => steps::advance(board, &mut look, event),
-        };
+        // An event of kinds 3 to 7 changes its chip where it lies.
+        if let Ok(Doing::At(place, what)) = plans::read_event(board.size, event) {
+            let k = place as usize / 2 % MOST;
+            let told = act(&mut board.chips[k], place % 2 == 1, what, event[2]);
+            look = look.noting(k, board.chips[k]);
+            buffers::put_record(
+                &mut answers[to..],
+                [told.code, place, told.value, look.request],
+            );
+            continue;
+        }
+        let answer = steps::advance(board, &mut look, event);
         buffers::put_record(&mut answers[to..], answer.into());
     }
 }
