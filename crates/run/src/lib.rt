@@ -9,6 +9,7 @@ use board::Board;
 use refusals::Refusal;
 
 // The number of a run's records, for which there is room. No sum is formed that could be too large.
+#[tactic(auto, using(crate::proofs::Ways::length_refused, crate::proofs::Ways::room_refused, crate::proofs::Ways::none_refused))]
 fn count(events: usize, room: usize, start: usize) -> Result<usize, Refusal>
     ensures { result ≡ counted_of events room start }
 {
@@ -26,6 +27,7 @@ fn count(events: usize, room: usize, start: usize) -> Result<usize, Refusal>
 
 // Steps all the records, refused ones included, and writes the answers from the record `start` of the buffer on; or refuses with
 // 35, 32 or 34, and board and buffer as they were.
+#[tactic(auto, using(crate::proofs::Ways::unsound_ran, crate::proofs::Ways::unsound_buffer, crate::proofs::Ways::refused_ran, crate::proofs::Ways::refused_buffer))]
 pub fn run(
     board: &mut Board,
     events: &[u8],

@@ -1,23 +1,15 @@
--- `run::run`: refused, or taken.
+-- `run::run`: taken.
 -- Assumes nothing.
-use Rattle.std.proofs.Common.{sym, ◌∙◌}
-use Rattle.board.proofs.Ways.{sound_is}
-use Rattle.run.proofs.Ways.{run_refused, run_taken}
+use Rattle.run.proofs.Ways.{run_counted, run_taken}
 use Rattle.run.proofs.run.Goals as goal
 
-pub returns-then-code-ne0 : goal.returns-then-code-ne0
-returns-then-code-ne0 c =
-    let all = run_refused _ _ _ _ c.look_over-seen.result c.look_over-seen.ensures.0 _ c.refusal-code.ensures.value c.if-code-ne0.true in
-    record { value = all.0; answers_after = all.1 }
-
-pub run_records-after-requires-clause-seen_value : goal.run_records-after-requires-clause-seen_value
-run_records-after-requires-clause-seen_value c =
-    let seen = c.look_over-seen in
-    let room = c.refusal-code.ensures.sound_value c.if-code-ne0.false in
-    (seen.ensures.0, (sym (sound_is c.args.board seen.result seen.ensures.0) ∙ room.0, seen.ensures.1))
+pub run_records-requires-clause-events_len : goal.run_records-requires-clause-events_len
+run_records-requires-clause-events_len c =
+    let k = run_counted c.args.board.now c.args.events.now c.args.answers.now c.args.start c.in_ok-n.n c.in_ok-n.ensures in
+    (k.whole, k.room)
 
 pub returns : goal.returns
 returns c =
-    let all =
-    run_taken _ _ _ _ c.look_over-seen.result c.look_over-seen.ensures.0 _ c.refusal-code.ensures.value _ _ c.if-code-ne0.false c.run_records-after.ensures.value c.run_records-after.ensures.answers_after in
+    let k = run_counted c.args.board.now c.args.events.now c.args.answers.now c.args.start c.in_ok-n.n c.in_ok-n.ensures in
+    let all = run_taken c.args.board.now c.args.events.now c.args.answers.now c.args.start c.in_ok-look.look c.in_ok-look.ensures.0 c.in_ok-n.n _ _ k c.run_records.ensures.board_after c.run_records.ensures.answers_after in
     record { value = all.0; answers_after = all.1 }
