@@ -8,7 +8,7 @@ use Prim.Native.Nat.{ℕ, ◌+◌, ◌*◌, ◌/◌, ◌%◌, ◌≤◌, ◌<◌
 use native.Mathlib.Omega.{arith}
 use lib.Dec.{ltb}
 use lib.ListN.{length}
-use borrow.Author.Tests.{lt-ltb, eq-eqb, ne_eqb, le-ltb, ltb-true, ltb-false, eqb-true}
+use borrow.Author.Tests.{lt-ltb, eq-eqb, ne_eqb, le-ltb, ltb-true}
 use Rattle.bits.specs.Bits.{◌is◌}
 use Rattle.buffers.specs.Splice.{splice}
 use Rattle.refusals.specs.declared.Refusal.{Refusal}
@@ -18,10 +18,10 @@ use Rattle.board.specs.declared.Board.{Board}
 use Rattle.board.specs.Board.{sound_board}
 use Rattle.board.specs.Step.{line, verdict}
 use Rattle.board.specs.Halves.{seen_of}
-use Rattle.board.proofs.Ways.{on, seen_err}
+use Rattle.board.proofs.Ways.{seen_err}
 use Rattle.records.specs.Records.{records, steps_of}
-use Rattle.recording.specs.Wave.{Exported, exported_by, wave_text, checked_of, refusal_of, wave_refusal, exported_of, page_of}
-use Rattle.recording.proofs.Bounds.{wave_bound, wave_least}
+use Rattle.recording.specs.Wave.{exported_by, wave_text, checked_of, refusal_of, wave_refusal, exported_of, page_of}
+use Rattle.recording.proofs.Bounds.{wave_bound}
 
 -- ---- the refusals in the code's types, by their tests
 abbrev Checked : Type 0

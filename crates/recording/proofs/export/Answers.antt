@@ -1,6 +1,6 @@
 -- `recording::export`: refused at once, refused when it was measured, or written.
 -- Assumes nothing.
-use Rattle.std.proofs.Common.{◌≡◌, ◌≤◌, sym, ap, ◌∙◌, length, arith}
+use Rattle.std.proofs.Common.{◌≡◌, ◌≤◌, ap, ◌∙◌, length, arith}
 use Rattle.std.proofs.lemmas.Result.{err_from_is_err_and}
 use Rattle.board.proofs.Ways.{seen_ok}
 use Rattle.recording.specs.Wave.{wave_text}
