@@ -76,6 +76,7 @@ fn obey_word(c: Chip, on_b: bool, w: Word) -> Chip
 
 // A control byte. A refusal leaves at once, with the chip as it was.
 #[tactic(auto, using(crate::proofs::Ways::refused, crate::proofs::Ways::obeyed))]
+#[inline(always)]
 pub fn control(c: Chip, on_b: bool, value: u8) -> Result<Chip, Refusal>
     ensures { result ≡ control_of (side on_b) value c }
 {
