@@ -12,7 +12,7 @@ ghost use Rattle.board.specs.Halves.{seen_of};
 ghost use Rattle.records.specs.Records.{records, steps_of, answers_of};
 ghost use Rattle.records.specs.Fast.{idles_of, acting_as};
 
-use board::{Board, Doing, Look};
+use board::{Board, Code, Doing, Look};
 use chain::{Decoder, MOST};
 use chip::Chip;
 use events::Event;
@@ -43,7 +43,7 @@ fn act(c: &mut Chip, on_b: bool, event: Event, value: u8) -> Told
     ensures { sound_chip c.old ≡ true → acting_as c.new result ≡ act_of (side on_b) event value c.old }
 {
     let mut told = Told {
-        code: 0,
+        code: Code::Done.into(),
         value: value,
     };
     match event {
@@ -57,7 +57,7 @@ fn act(c: &mut Chip, on_b: bool, event: Event, value: u8) -> Told
             *c = acted.chip;
             if let Some(byte) = acted.shown {
                 told = Told {
-                    code: 1,
+                    code: Code::Data.into(),
                     value: byte,
                 };
             }
