@@ -9,6 +9,7 @@ use Rattle.board.specs.declared.Answer.{Answer}
 use Rattle.board.specs.Board.{ports}
 use Rattle.board.specs.Step.{bytes_of, step_of, Stepped}
 use Rattle.records.specs.Records.{records, steps_of}
+use Rattle.records.proofs.Turns.{next as record_at, none}
 use Rattle.text.specs.Listing.{after, listing_of, tail_of}
 use Rattle.panel.specs.Text.{places_of, page_of, pages_of, text_of}
 
@@ -22,27 +23,6 @@ page {out} {m} {m'} {bytes} {at} {n} {n'} {answer} {b} number s e ea eb room lin
     rw (← eb, ← ea, ← e) (wrote_then (omega arith) (wrote_all (105 * (length bytes / 4)) (omega (arith, four)) line) places)
 
 -- ---- the records from record i on
-first : (es : List ℕ) → 4 ≤ length es → records es ≡ take 4 es ∷ records (drop 4 es)
-unfolding records
-first [] h = absurd (omega arith)
-first (a ∷ []) h = absurd (omega arith)
-first (a ∷ b ∷ []) h = absurd (omega arith)
-first (a ∷ b ∷ c ∷ []) h = absurd (omega arith)
-first (a ∷ b ∷ c ∷ d ∷ rest) h = refl
-
-none : (es : List ℕ) → length es < 4 → records es ≡ []
-unfolding records
-none [] h = refl
-none (a ∷ []) h = refl
-none (a ∷ b ∷ []) h = refl
-none (a ∷ b ∷ c ∷ []) h = refl
-none (a ∷ b ∷ c ∷ d ∷ rest) h = absurd (omega arith)
-
-records_from : (es : List ℕ) (i : ℕ) → i < length es / 4 → records (drop (4 * i) es) ≡ take 4 (drop (4 * i) es) ∷ records (drop (4 * (i + 1)) es)
-records_from es i h =
-    let e : 4 * i + 4 ≡ 4 * (i + 1) = omega arith in
-    rw (first (drop (4 * i) es) (omega (arith, length-drop (4 * i) es)), drop-drop, e)
-
 module _ (es old : List ℕ) (b₀ : Board) (number : ℕ) where
   -- where the panel stands before record i
   pub record Before (out : List ℕ) (b : Board) (line next i : ℕ) : Type 0 where
@@ -66,7 +46,7 @@ module _ (es old : List ℕ) (b₀ : Board) (number : ℕ) where
   unfolding steps_of pages_of
   turn {out} {m} {b} {b'} {line} {line'} {next} {n} {i} {chunks} fits e h w on put few =
       let event : get_or chunks i [] ≡ take 4 (drop (4 * i) es) = rw e (chunk_at 4 (length es / 4) i es h) in
-      let more = records_from es i h in
+      let more = record_at es i (omega arith) in
       record {
         within = omega arith;
         room = omega (arith, w.room);
@@ -82,7 +62,7 @@ module _ (es old : List ℕ) (b₀ : Board) (number : ℕ) where
       × ((line ≡ (number + length es / 4) % 2 ^ 64) × (Wrote old 0 (text_of b₀ number es) m n × (n ≤ 3465 * (length es / 4) + 26)))
   unfolding steps_of pages_of text_of
   done {out} {m} {b} {line} {next} {n} {i} fits w h tail few =
-      let e = none (drop (4 * i) es) (omega (arith, length-drop (4 * i) es, w.within)) in
+      let e = none es i (omega arith) in
       let i-is : i ≡ length es / 4 = omega (arith, w.within) in
       let text = wrote_then (omega arith) (writing_done w.rest (rw e)) (wrote_all 26 (omega (arith, w.room, w.within, w.rest.long)) tail) in
       (rw e at w.board, (rw i-is at w.lines, (text, omega (arith, w.room, w.within))))

@@ -2,9 +2,10 @@
 // writes a program's text of them. What comes and where it goes is known to a contract only where a reader's or a writer's bytes are.
 #![tactic(auto)]
 
-ghost use Rattle.std.specs.Prelude.{◌≡◌, ◌+◌, ◌≤◌, ℕ, List, length, replicate, IsTrue, take, IfOk, MatchResult};
+ghost use Rattle.std.specs.Prelude.{◌≡◌, ◌+◌, ◌≤◌, ℕ, List, length, IsTrue, take, IfOk, MatchResult};
 ghost use Rattle.std.specs.Io.KnownBytes.{Appends, Consumes, Keeps};
 ghost use Rattle.buffers.specs.Splice.{Wrote};
+ghost use Rattle.station.specs.Zeros.{zeros_of};
 ghost use Rattle.station.specs.Pages.{GoesOn, Shown};
 ghost use Rattle.station.specs.Failures.{why_of};
 
@@ -15,8 +16,9 @@ use std::io::{Cursor, Error, ErrorKind, Read, Write};
 use std::rt::Env;
 
 // A buffer of zeros.
+#[tactic(auto, unfolding(crate::specs::Zeros::zeros_of))]
 pub fn zeros<const N: usize>() -> [u8; N]
-    ensures { result ≡ replicate N 0 }
+    ensures { result ≡ zeros_of N }
 {
     [0; N]
 }

@@ -1,26 +1,38 @@
 -- The laws of a refusal's line. Assumes nothing.
-use mathlib.Core.Path.{◌≡◌}
-use mathlib.Core.List.{List, append-nil}
+use mathlib.Core.Path.{◌≡◌, refl}
+use mathlib.Core.List.{List}
 use Prim.Native.Nat.{ℕ, ◌≤◌}
 use native.Mathlib.Omega.{arith}
 use lib.ListN.{length}
-use borrow.Author.Tests.{ne_eqb}
+use Rattle.refusals.specs.declared.Refusal.{Refusal}
+use Rattle.refusals.specs.declared.Refusal.TheVariants.{Kind, Place, Value, NoForm, NotOnB, Length, Size, Room, Unsound, Records, Text, Stamps}
+use Rattle.refusals.specs.Numbers.{number_of}
 use Rattle.buffers.specs.Splice.{if_room, Wrote}
-use Rattle.buffers.specs.Digits.{digits_of}
+use Rattle.buffers.specs.Digits.{digits_of, digits_up}
 use Rattle.buffers.specs.Rows.{row_of}
 use Rattle.buffers.proofs.Splices.{wrote_all}
 use Rattle.text.specs.Panel.{refused_of}
 use Rattle.wave.specs.Text.{words_of, refusal_line}
 
--- a number with words
-pub said : {old m text : List ℕ} {n code : ℕ} (number : ℕ) → code ≡ number → text ≡ refusal_line number → length old ≡ 64 → length text ≤ 64
-    → Wrote old 0 (if_room old 0 (length text) text) m n → Wrote old 0 (refusal_line code) m n × (n ≤ 64)
-said {old} {m} {text} {n} {code} number is line room short w =
+-- a refusal with words
+pub said : {old m text : List ℕ} {n : ℕ} {r : Refusal} (s : Refusal) → r ≡ s → text ≡ refusal_line (number_of s) → length old ≡ 64 → length text ≤ 64
+    → Wrote old 0 (if_room old 0 (length text) text) m n → Wrote old 0 (refusal_line (number_of r)) m n × (n ≤ 64)
+said {old} {m} {text} {n} {r} s is line room short w =
     let all = wrote_all (length text) (omega arith) w in (rw (is, ← line) all, omega (arith, all.ends))
 
--- a number with no words
-pub unsaid : (code : ℕ) → (code ≡ 33 → ⊥) → (code ≡ 35 → ⊥) → (code ≡ 32 → ⊥) → (code ≡ 36 → ⊥) → (code ≡ 41 → ⊥) → (code ≡ 40 → ⊥)
-    → refused_of code ≡ refusal_line code
-unfolding refusal_line words_of row_of
-unsaid code a b c d e f =
-    rw (ne_eqb code 33 a, ne_eqb code 35 b, ne_eqb code 32 c, ne_eqb code 36 d, ne_eqb code 41 e, ne_eqb code 40 f, append-nil (digits_of code))
+-- a refusal with no words
+pub unsaid : (r : Refusal) → (r ≡ Size → ⊥) → (r ≡ Unsound → ⊥) → (r ≡ Length → ⊥) → (r ≡ Records → ⊥) → (r ≡ Stamps → ⊥) → (r ≡ Text → ⊥)
+    → refused_of (number_of r) ≡ refusal_line (number_of r)
+unfolding refusal_line words_of row_of digits_of digits_up
+unsaid Kind a b c d e f = refl
+unsaid Place a b c d e f = refl
+unsaid Value a b c d e f = refl
+unsaid NoForm a b c d e f = refl
+unsaid NotOnB a b c d e f = refl
+unsaid Length a b c d e f = absurd (c refl)
+unsaid Size a b c d e f = absurd (a refl)
+unsaid Room a b c d e f = refl
+unsaid Unsound a b c d e f = absurd (b refl)
+unsaid Records a b c d e f = absurd (d refl)
+unsaid Text a b c d e f = absurd (f refl)
+unsaid Stamps a b c d e f = absurd (e refl)

@@ -1,5 +1,6 @@
 -- The ways out of `make_text`, and the refusal that never comes. Assumes nothing.
-use mathlib.Core.Path.{◌≡◌, refl}
+use Rattle.std.specs.Prelude.{Result, Ok, Err, IfOk}
+use mathlib.Core.Path.{◌≡◌, refl, ◌∙◌}
 use mathlib.Core.Bool.{Bool, true, false, not}
 use mathlib.Core.List.{List, [], ◌∷◌}
 use Prim.Native.Nat.{ℕ, ◌*◌, ◌/◌, ◌%◌, ◌≤◌}
@@ -9,15 +10,15 @@ use lib.ListN.{length}
 use borrow.Author.Tests.{eq-eqb, ne_eqb, eqb-true, ltb-false}
 use Rattle.bits.specs.Bits.{◌is◌}
 use Rattle.bits.proofs.Logic.{by_cases}
+use Rattle.refusals.specs.declared.Refusal.{Refusal}
+use Rattle.refusals.specs.Numbers.{number_of}
+use Rattle.refusals.proofs.Refused.{refused}
 use Rattle.board.specs.declared.Board.{Board}
-use Rattle.board.specs.declared.Made.{Made}
-use Rattle.board.specs.Board.{size_ok, sound_board, blank_board, fresh_of}
+use Rattle.board.specs.Board.{size_ok, sound_board, blank_board, made_by, fresh_of}
 use Rattle.board.specs.Step.{Line, line, verdict}
-use Rattle.recording.specs.declared.Exported.{Exported}
-use Rattle.recording.specs.Wave.{wave_text, refusal_of, wave_refusal, exported_of, page_of}
+use Rattle.recording.specs.Wave.{wave_text, refusal_of, wave_refusal, exported_of, exported_by, page_of}
 use Rattle.recording.proofs.Bounds.{never_forty}
-use Rattle.wave.specs.declared.Wave.{Wave}
-use Rattle.wave.specs.Text.{code_and_length, wave_of, buffer_of}
+use Rattle.wave.specs.Text.{code_and_length, waved_by, wave_of, buffer_of}
 
 -- an accepted export has room for its text
 none : (p q r s t : Bool) → verdict (line p 35 ∷ line q 32 ∷ line r 36 ∷ line s 41 ∷ line t 40 ∷ []) ≡ 0 → t ≡ false
@@ -36,19 +37,28 @@ fits b events stamps room =
     (λ z. rw z (ltb-false room long (none (not (sound_board b)) (not (length events % 4 is 0)) (ltb 16384 (length events / 4)) (not (length stamps is 2 * (length events / 4))) (ltb room long) (eqb-true _ 0 z))))
     (λ z. rw z (omega arith))
 
-module _ (size : ℕ) (events stamps old : List ℕ) (made : Made) (e : made ≡ fresh_of size) where
-  abbrev Out : Wave → List ℕ → Type 0
-  Out r out = (r ≡ wave_of size events stamps (length old)) × ((out ≡ buffer_of size events stamps old) × (r.length ≤ length old))
+-- what an export answers, and what the program makes of it
+same : (b : Board) (r : Result ℕ Refusal) → waved_by r ≡ code_and_length (exported_by b r)
+same b (Ok n) = refl
+same b (Err r) = refl
 
-  pub no_board : (made.code ≡ 0 → ⊥) → Out (record { code = made.code; length = 0 }) old
-  unfolding wave_of buffer_of
-  no_board z = (rw (← e, ne_eqb made.code 0 z), (rw (← e, ne_eqb made.code 0 z), omega arith))
+short : (b : Board) (r : Result ℕ Refusal) (room : ℕ) → (exported_by b r).length ≤ room → IfOk r (λ n. n ≤ room)
+short b (Ok n) room h = h
+short b (Err r) room h = tt
 
-  pub exported : {done : Exported} {out : List ℕ} → made.code ≡ 0 → done ≡ exported_of made.board events stamps (length old)
-      → out ≡ page_of made.board events stamps old → Out (code_and_length done) out
+module _ (size : ℕ) (events stamps old : List ℕ) where
+  abbrev Out : Result ℕ Refusal → List ℕ → Type 0
+  Out r out = (waved_by r ≡ wave_of size events stamps (length old)) × ((out ≡ buffer_of size events stamps old) × IfOk r (λ n. n ≤ length old))
+
+  pub no_board : (r : Refusal) → made_by (Err r) ≡ fresh_of size → Out (Err r) old
   unfolding wave_of buffer_of
-  exported {done} {out} z d p =
-      (rw (← e, eq-eqb made.code 0 z, d), (rw (← e, eq-eqb made.code 0 z, p), rw d (fits made.board events stamps (length old))))
+  no_board r e = let z = ne_eqb (number_of r) 0 (refused r) in (rw (← e, z), (rw (← e, z), tt))
+
+  pub exported : {b : Board} {out : List ℕ} (b' : Board) (r : Result ℕ Refusal) → made_by (Ok b) ≡ fresh_of size
+      → exported_by b' r ≡ exported_of b events stamps (length old) → out ≡ page_of b events stamps old → Out r out
+  unfolding wave_of buffer_of
+  exported {b} {out} b' r e d p =
+      (same b' r ∙ rw (← e, d), (rw (← e, p), short b' r (length old) (rw d (fits b events stamps (length old)))))
 
 -- ---- the page has room for the text of any recording, so 40 never comes
 many : (p q : Bool) (l : List Line) → verdict (line p 35 ∷ line q 32 ∷ line true 36 ∷ l) ≡ 40 → ⊥

@@ -1,14 +1,14 @@
 -- What the wave program makes of its two files and the size that it is asked for, and the line with which it refuses: docs/FORMATS.md,
 -- "The wave".
 -- Assumes nothing.
-use Rattle.std.specs.Prelude.{◌≡◌, List, [], ◌∷◌, ◌++◌, ℕ, ◌+◌, ◌%◌, ◌<◌, ltb, length, take, if◌then◌else◌}
+use Rattle.std.specs.Prelude.{◌≡◌, List, [], ◌∷◌, ◌++◌, ℕ, ◌+◌, ◌%◌, ◌<◌, ltb, length, take, Result, Ok, Err, if◌then◌else◌}
 use Rattle.bits.specs.Bits.{◌is◌}
 use Rattle.buffers.specs.Text.{ascii}
 use Rattle.buffers.specs.Digits.{digits_of}
+use Rattle.refusals.specs.declared.Refusal.{Refusal}
+use Rattle.refusals.specs.Numbers.{number_of}
 use Rattle.board.specs.Board.{fresh_of}
-use Rattle.recording.specs.declared.Exported.{Exported}
-use Rattle.recording.specs.Wave.{exported_of, page_of}
-use Rattle.wave.specs.declared.Wave.{Wave}
+use Rattle.recording.specs.Wave.{Exported, exported_of, page_of}
 
 -- ---- a file: the length that a file of n bytes is taken for. From `limit` on it is too long for any recording, and of its length only
 -- what is over after the last whole record matters
@@ -33,6 +33,10 @@ abbrev pub SameBefore : ℕ → List ℕ → List ℕ → Type 0
 SameBefore at old new = take at new ≡ take at old
 
 -- ---- the text: that of the export on a fresh board of `size` chips. `room`, `old`: the buffer's length, and its bytes before
+pub record Wave : Type 0 where
+  pub code : ℕ
+  pub length : ℕ
+
 abbrev pub code_and_length : Exported → Wave
 code_and_length e = record { code = e.code; length = e.length }
 
@@ -40,6 +44,11 @@ unfoldable pub wave_of : ℕ → List ℕ → List ℕ → ℕ → Wave
 wave_of size events stamps room =
     if (fresh_of size).code is 0 then code_and_length (exported_of (fresh_of size).board events stamps room) else
     record { code = (fresh_of size).code; length = 0 }
+
+-- the same of a text's length or a refusal
+abbrev pub waved_by : Result ℕ Refusal → Wave
+waved_by (Ok n) = record { code = 0; length = n }
+waved_by (Err r) = record { code = number_of r; length = 0 }
 
 unfoldable pub buffer_of : ℕ → List ℕ → List ℕ → List ℕ → List ℕ
 buffer_of size events stamps old = if (fresh_of size).code is 0 then page_of (fresh_of size).board events stamps old else old

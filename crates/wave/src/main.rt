@@ -2,45 +2,27 @@
 // refusal's line by `put_refusal`, whose contracts say them byte for byte; the rest reads and writes.
 #![tactic(auto)]
 
-ghost use Rattle.std.specs.Prelude.{◌≡◌, ◌+◌, ◌-◌, ◌≤◌, ◌<◌, length, IfOk};
+ghost use Rattle.std.specs.Prelude.{◌≡◌, ◌+◌, ◌-◌, ◌≤◌, ◌<◌, length, IfOk, IfSome};
 ghost use Rattle.buffers.specs.Splice.{Wrote};
-ghost use Rattle.wave.specs.Text.{kept_of, next_from, SameBefore, ReadInParts, ByOwnLength, wave_of, buffer_of, refusal_line};
+ghost use Rattle.refusals.specs.Numbers.{number_of};
+ghost use Rattle.wave.specs.Text.{kept_of, next_from, SameBefore, ReadInParts, ByOwnLength, waved_by, wave_of, buffer_of, refusal_line};
 
-use std::env::FillError;
-use std::io::{Cursor, Error, ErrorKind, Read, Write};
+use refusals::Refusal;
+use std::io::{Error, ErrorKind, Read, Write};
 use std::rt::{Env, Files};
 use std::{fs, io};
 
 // The system's number for a name that is too long.
 const ENAMETOOLONG: i32 = 36;
 
-// How far a file is read: its length so far as `kept` counts it, whether there may be more, and whether it cannot be read.
-#[derive(Clone, Copy)]
-struct Stand {
-    count: usize,
-    more: bool,
-    failed: bool,
-}
+// One record more than the 16,384 that a recording may have, and what is over.
+const EVENTS: usize = 65544;
 
-// The code of an export, and the length of its text.
-#[derive(Clone, Copy)]
-struct Wave {
-    code: u8,
-    length: usize,
-}
+// Four bytes more than the stamps of 16,384 records, and what is over.
+const STAMPS: usize = 32776;
 
-// Says what failed and why, in the system's words alone: the number that std puts behind them is left out.
-fn fail(stderr: &mut impl Write, what: &[u8], error: Error) {
-    let mut words = Cursor::new([0u8; 128]);
-    let _ = write!(words, "{error}");
-    let bytes = words.into_inner();
-    let text = std::str::from_utf8(&bytes)
-        .unwrap_or("")
-        .trim_end_matches('\0');
-    let (why, _) = text.split_once(" (os error ").unwrap_or((text, ""));
-    let _ = stderr.write_all(what);
-    let _ = writeln!(stderr, ": {why}");
-}
+// Room for the longest text: the header of 257 bytes, and 39 for each of 16,384 records.
+const PAGE: usize = 639233;
 
 // The length that a file of `n` bytes is taken for. From `limit` on it is too long for any recording, its bytes matter no more, and of
 // its length only what is over after the last whole record.
@@ -75,225 +57,128 @@ fn read_at(file: &mut impl Read, buffer: &mut [u8], at: usize) -> io::Result<usi
     file.read(&mut buffer[at..])
 }
 
-// Reads what comes next; what was read before stays. A file that cannot be read is named.
-fn read_more(
-    file: &mut impl Read,
-    stderr: &mut impl Write,
-    path: &[u8],
-    buffer: &mut [u8],
-    count: usize,
-) -> Stand
+// Reads what comes next; what was read before stays. Answers the length so far, or nothing where the file has ended.
+fn read_more(file: &mut impl Read, buffer: &mut [u8], count: usize) -> io::Result<Option<usize>>
     requires { (4 ≤ length buffer.old) × ((length buffer.old ≤ 65544) × (count < length buffer.old)) }
-    ensures count_in_bounds { result.count < length buffer.old }
+    ensures count_in_bounds { IfOk result (λ o. IfSome o (λ n. n < length buffer.old)) }
     ensures same_before { SameBefore (next_from (length buffer.old - 4) count) buffer.old buffer.new }
 {
     let limit = buffer.len() - 4;
-    let at = next_at(count, limit);
-    match read_at(file, buffer, at) {
-        Ok(n) => Stand {
-            count: kept(count + n, limit),
-            more: n != 0,
-            failed: false,
-        },
-        Err(error) => {
-            fail(stderr, path, error);
-            Stand {
-                count: count,
-                more: false,
-                failed: true,
-            }
-        }
+    let n = read_at(file, buffer, next_at(count, limit))?;
+    if n == 0 {
+        return Ok(None);
     }
+    Ok(Some(kept(count + n, limit)))
 }
 
-// Reads a file to its end. Nothing says that it ends, so the turns are counted, up to a number that no file reaches.
-fn read_all(file: &mut impl Read, stderr: &mut impl Write, path: &[u8], buffer: &mut [u8]) -> Stand
+// Reads a file to its end, and answers its length. Nothing says that it ends, so the turns are counted, up to a number that no file
+// reaches.
+fn read_all(file: &mut impl Read, buffer: &mut [u8]) -> io::Result<usize>
     requires { (4 ≤ length buffer.old) × (length buffer.old ≤ 65544) }
-    ensures { result.count < length buffer.old }
+    ensures { IfOk result (λ n. n < length buffer.old) }
 {
-    let mut stand = Stand {
-        count: 0,
-        more: true,
-        failed: false,
-    };
+    let mut count = 0;
     for _ in 0..u64::MAX {
-        if !stand.more {
-            break;
+        match read_more(file, buffer, count)? {
+            Some(n) => count = n,
+            None => break,
         }
-        stand = read_more(file, stderr, path, buffer, stand.count);
     }
-    stand
+    Ok(count)
 }
 
-// Opens the file of that name. std opens a file by text alone.
-fn open<R: Files>(rt: &R, path: &[u8]) -> io::Result<R::File> {
-    match std::str::from_utf8(path) {
-        Ok(name) => fs::open(rt, name),
-        Err(_) => Err(Error::new(ErrorKind::InvalidFilename, "the name is not UTF-8")),
-    }
-}
-
-// Opens a file and reads it. One that cannot be opened is named.
-fn read_named(rt: &impl Files, stderr: &mut impl Write, path: &[u8], buffer: &mut [u8]) -> Stand
+// Opens the file of that name, and reads it. std opens a file by text alone.
+fn read_named(rt: &impl Files, path: &[u8], buffer: &mut [u8]) -> io::Result<usize>
     requires { (4 ≤ length buffer.old) × (length buffer.old ≤ 65544) }
-    ensures { result.count < length buffer.old }
+    ensures { IfOk result (λ n. n < length buffer.old) }
 {
-    match open(rt, path) {
-        Ok(mut file) => read_all(&mut file, stderr, path, buffer),
-        Err(error) => {
-            fail(stderr, path, error);
-            Stand {
-                count: 0,
-                more: false,
-                failed: true,
-            }
-        }
-    }
+    let Ok(name) = std::str::from_utf8(path) else {
+        return Err(Error::new(ErrorKind::InvalidFilename, "the name is not UTF-8"));
+    };
+    read_all(&mut fs::open(rt, name)?, buffer)
 }
 
-// Reads the file that an argument of the program names.
+// Reads the file that an argument of the program names. One that cannot be read is named.
 fn read_file(
     rt: &(impl Env + Files),
     stderr: &mut impl Write,
     argument: usize,
     buffer: &mut [u8],
-) -> Stand
+) -> Option<usize>
     requires { (4 ≤ length buffer.old) × (length buffer.old ≤ 65544) }
-    ensures { result.count < length buffer.old }
+    ensures { IfSome result (λ n. n < length buffer.old) }
 {
     let mut path = [0u8; 4096];
-    match rt.arg(argument, &mut path) {
-        Ok(n) => read_named(rt, stderr, &path[..n], buffer),
-        Err(_) => {
-            fail(stderr, &path, Error::from_raw_os_error(ENAMETOOLONG));
-            Stand {
-                count: 0,
-                more: false,
-                failed: true,
-            }
+    let (end, read) = match rt.arg(argument, &mut path) {
+        Ok(n) => (n, read_named(rt, &path[..n], buffer)),
+        Err(_) => (path.len(), Err(Error::from_raw_os_error(ENAMETOOLONG))),
+    };
+    match read {
+        Ok(count) => Some(count),
+        Err(error) => {
+            station::fail(stderr, &path[..end], error);
+            None
         }
     }
 }
 
-// The text of a recording on a fresh board of `size` chips, at the start of `out`; or the code of the refusal.
-fn make_text(size: usize, events: &[u8], stamps: &[u8], out: &mut [u8]) -> Wave
-    ensures value { result ≡ wave_of size events.now stamps.now (length out.old) }
+// The text of a recording on a fresh board of `size` chips, at the start of `out`, and its length; or the refusal.
+fn make_text(size: usize, events: &[u8], stamps: &[u8], out: &mut [u8]) -> Result<usize, Refusal>
+    ensures value { waved_by result ≡ wave_of size events.now stamps.now (length out.old) }
     ensures out_after { out.new ≡ buffer_of size events.now stamps.now out.old }
-    ensures length_in_bounds { result.length ≤ length out.old }
+    ensures length_in_bounds { IfOk result (λ n. n ≤ length out.old) }
 {
-    let made = board::fresh(size);
-    if made.code != 0 {
-        return Wave {
-            code: made.code,
-            length: 0,
-        };
-    }
-    let board = made.board;
-    let done = recording::export(board, events, stamps, out);
-    Wave {
-        code: done.code,
-        length: done.length,
-    }
+    let mut board = board::fresh(size)?;
+    recording::export(&mut board, events, stamps, out)
 }
 
 // The line that says a refusal, at the start of `out`. Answers the index behind it.
-fn put_refusal(out: &mut [u8], code: u8) -> usize
+fn put_refusal(out: &mut [u8], refusal: Refusal) -> usize
     requires { length out.old ≡ 64 }
-    ensures wrote { Wrote out.old 0 (refusal_line code) out.new result }
+    ensures wrote { Wrote out.old 0 (refusal_line (number_of refusal)) out.new result }
     ensures upper_bound { result ≤ 64 }
 {
-    match code {
-        33 => buffers::put_bytes(out, 0, b"refused 33 a board has one to four chips\n"),
-        35 => buffers::put_bytes(out, 0, b"refused 35 the board is not sound\n"),
-        32 => buffers::put_bytes(
+    match refusal {
+        Refusal::Size => buffers::put_bytes(out, 0, b"refused 33 a board has one to four chips\n"),
+        Refusal::Unsound => buffers::put_bytes(out, 0, b"refused 35 the board is not sound\n"),
+        Refusal::Length => buffers::put_bytes(
             out,
             0,
             b"refused 32 the events are not whole records of four bytes\n",
         ),
-        36 => buffers::put_bytes(out, 0, b"refused 36 more than 16384 records\n"),
-        41 => buffers::put_bytes(
+        Refusal::Records => buffers::put_bytes(out, 0, b"refused 36 more than 16384 records\n"),
+        Refusal::Stamps => buffers::put_bytes(
             out,
             0,
             b"refused 41 the stamps are not two bytes for each record\n",
         ),
-        40 => buffers::put_bytes(out, 0, b"refused 40 the text is longer than its buffer\n"),
-        _ => text::put_refused(out, 0, code),
+        Refusal::Text => buffers::put_bytes(out, 0, b"refused 40 the text is longer than its buffer\n"),
+        _ => text::put_refused(out, 0, refusal.into()),
     }
 }
 
 // Says a refusal on standard error.
-fn refuse(stderr: &mut impl Write, code: u8) {
+fn refuse(stderr: &mut impl Write, refusal: Refusal) {
     let mut line = [0u8; 64];
-    let end = put_refusal(&mut line, code);
+    let end = put_refusal(&mut line, refusal);
     let _ = stderr.write_all(&line[..end]);
-}
-
-// Writes the text. A reader that has left is no failure to speak of.
-fn write_text(stdout: &mut impl Write, stderr: &mut impl Write, text: &[u8]) {
-    if let Err(error) = stdout.write_all(text)
-        && error.kind() != ErrorKind::BrokenPipe
-    {
-        fail(stderr, b"standard output", error);
-    }
-}
-
-// Room for the longest text: the header of 257 bytes, and 39 for each of 16,384 records.
-fn page() -> [u8; 639233]
-    ensures { 639233 ≡ length result }
-{
-    [0; 639233]
 }
 
 // Makes the text and writes it, or says the refusal.
 fn show(
     stdout: &mut impl Write,
     stderr: &mut impl Write,
-    size: usize,
+    size: Result<usize, Refusal>,
     events: &[u8],
     stamps: &[u8],
 ) {
-    let mut out = page();
-    let made = make_text(size, events, stamps, &mut out);
-    if made.code != 0 {
-        refuse(stderr, made.code);
-        return;
-    }
-    let end = made.length;
-    write_text(stdout, stderr, &out[..end]);
-}
-
-// How many words the program was started with, its own name among them.
-fn arg_count(rt: &impl Env) -> usize {
-    for i in 0..usize::MAX {
-        if let Err(FillError::NotPresent) = rt.arg(i, &mut []) {
-            return i;
+    let mut out = station::zeros::<PAGE>();
+    match size.and_then(|size| make_text(size, events, stamps, &mut out)) {
+        Ok(end) => {
+            let _ = station::write_text(stdout, stderr, &out[..end]);
         }
+        Err(refusal) => refuse(stderr, refusal),
     }
-    usize::MAX
-}
-
-// The size that the third argument asks for: 4 without one, and 0, which no board has, where it is no size.
-fn size_asked(rt: &impl Env, count: usize) -> usize {
-    if count < 4 {
-        return 4;
-    }
-    let mut word = [0u8; 4096];
-    let n = rt.arg(3, &mut word).unwrap_or(0);
-    text::size_in(&word[..n])
-}
-
-// One record more than the 16,384 that a recording may have, and what is over.
-fn events_buffer() -> [u8; 65544]
-    ensures { 65544 ≡ length result }
-{
-    [0; 65544]
-}
-
-// Four bytes more than the stamps of 16,384 records, and what is over.
-fn stamps_buffer() -> [u8; 32776]
-    ensures { 32776 ≡ length result }
-{
-    [0; 32776]
 }
 
 // Does nothing. Its contract: a file that is longer than its buffer is refused by its own length, in however many parts it is read.
@@ -306,25 +191,21 @@ fn export_files(
     rt: &(impl Env + Files),
     stdout: &mut impl Write,
     stderr: &mut impl Write,
-    size: usize,
+    size: Result<usize, Refusal>,
 ) {
-    let mut events = events_buffer();
-    let first = read_file(rt, stderr, 1, &mut events);
-    if first.failed {
+    let mut events = station::zeros::<EVENTS>();
+    let Some(n) = read_file(rt, stderr, 1, &mut events) else {
         return;
-    }
-    let mut stamps = stamps_buffer();
-    let second = read_file(rt, stderr, 2, &mut stamps);
-    if second.failed {
+    };
+    let mut stamps = station::zeros::<STAMPS>();
+    let Some(m) = read_file(rt, stderr, 2, &mut stamps) else {
         return;
-    }
-    let n = first.count;
-    let m = second.count;
+    };
     show(stdout, stderr, size, &events[..n], &stamps[..m]);
 }
 
 fn main(rt: HostRuntime) {
-    let count = arg_count(&rt);
+    let count = station::arg_count(&rt);
     if (count < 3) | (count > 4) {
         let _ = eprintln!(rt; "usage: wave EVENTS STAMPS [SIZE]");
         return;
@@ -333,6 +214,6 @@ fn main(rt: HostRuntime) {
         &rt,
         &mut rt.stdout(),
         &mut rt.stderr(),
-        size_asked(&rt, count),
+        station::size_asked(&rt, 3),
     );
 }

@@ -3,4 +3,4 @@ use Rattle.std.proofs.Common.{◌<◌, length}
 use Rattle.wave.proofs.read_all.Given as goal
 
 abbrev pub invariant-loop : goal.invariant-loop
-invariant-loop g l = l.stand.count < length l.buffer
+invariant-loop g l = l.count < length l.buffer
