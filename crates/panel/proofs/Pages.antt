@@ -1,5 +1,5 @@
 -- The laws of the panel's pages, written record by record. Assumes nothing.
-use Rattle.std.proofs.Common.{◌≡◌, ℕ, ◌+◌, ◌*◌, ◌/◌, ◌%◌, ◌^◌, ◌<◌, ◌≤◌, List, [], ◌∷◌, length, get_or, take, drop, refl, ap, arith, length-drop, drop-drop}
+use Rattle.std.proofs.Common.{◌≡◌, ℕ, ◌+◌, ◌*◌, ◌/◌, ◌%◌, ◌^◌, ◌<◌, ◌≤◌, List, [], length, get_or, take, drop, refl, ap, arith}
 use Rattle.std.specs.Simd.{first_chunks}
 use Rattle.buffers.specs.Splice.{if_room, Wrote}
 use Rattle.buffers.proofs.Chunks.{chunk_at}

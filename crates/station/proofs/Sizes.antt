@@ -1,5 +1,5 @@
 -- A size asked for is 1 to 4, or refused as one. Assumes nothing.
-use Rattle.std.proofs.Common.{◌≡◌, ℕ, zero, suc, ◌≤◌, true, false, ◌&&◌, leb, List, refl, arith, leb-true, Ok, Err}
+use Rattle.std.proofs.Common.{◌≡◌, ℕ, zero, suc, ◌≤◌, ◌&&◌, leb, List, refl, arith, leb-true}
 use Rattle.std.specs.Prelude.{MatchResult}
 use Rattle.refusals.specs.declared.Refusal.TheVariants.{Size}
 use Rattle.bits.proofs.Logic.{by_cases, both}

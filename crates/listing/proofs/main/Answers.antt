@@ -1,5 +1,4 @@
 -- `listing::main` begins with a sound board. Assumes nothing.
-use Rattle.std.proofs.Common.{sym}
 use Rattle.listing.proofs.Answers.{made, made_sound}
 use Rattle.listing.proofs.main.Goals as goal
 
