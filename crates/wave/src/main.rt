@@ -152,7 +152,11 @@ fn put_refusal(out: &mut [u8], refusal: Refusal) -> usize
             0,
             b"refused 41 the stamps are not two bytes for each record\n",
         ),
-        Refusal::Text => buffers::put_bytes(out, 0, b"refused 40 the text is longer than its buffer\n"),
+        Refusal::Text => buffers::put_bytes(
+            out,
+            0,
+            b"refused 40 the text is longer than its buffer\n",
+        ),
         _ => text::put_refused(out, 0, refusal.into()),
     }
 }
