@@ -4,7 +4,7 @@ use mathlib.Core.List.{List, [], ◌∷◌, ◌++◌, append_assoc, append-nil}
 use Prim.Native.Nat.{ℕ, ◌+◌, ◌-◌, ◌≤◌, ◌<◌}
 use native.Mathlib.Nat.{add-zero, add_assoc}
 use native.Mathlib.Omega.{arith}
-use lib.ListN.{length, take, drop, set, length-append, length-drop, take-append-drop}
+use lib.ListN.{length, get_or, take, drop, set, length-append, length-drop, take-append-drop}
 use lib.Seq.{length-take-le, take_at, drop-append-add, drop-append-le, take-take, take-add, drop-drop, sets, sets-eq}
 use borrow.Author.Tests.{le-leb, lt-leb}
 use borrow.Rule.Slice.PartMut.{put_mid}
@@ -175,3 +175,12 @@ writing_part {old} {whole} {out} {m} {rest} {b} {more} {at} {next} {n} w e part 
 pub writing_done : {old whole out rest : List ℕ} {at next : ℕ} → Writing old at whole out next rest → rest ≡ [] → Wrote old at whole out next
 writing_done {old} {whole} {out} {rest} {at} {next} w e =
     record { bytes = sym (splice_none out next) ∙ (rw e at w.bytes); ends = omega (arith, w.ends, ap length e) }
+
+-- ---- four bytes
+pub four : (xs : List ℕ) → length xs ≡ 4 → (get_or xs 0 0 ∷ get_or xs 1 0 ∷ get_or xs 2 0 ∷ get_or xs 3 0 ∷ []) ≡ xs
+four [] h = absurd (omega (arith, h))
+four (a ∷ []) h = absurd (omega (arith, h))
+four (a ∷ b ∷ []) h = absurd (omega (arith, h))
+four (a ∷ b ∷ c ∷ []) h = absurd (omega (arith, h))
+four (a ∷ b ∷ c ∷ d ∷ []) h = refl
+four (a ∷ b ∷ c ∷ d ∷ e ∷ xs) h = absurd (omega (arith, h))

@@ -17,7 +17,11 @@ pub fn put_record(out: &mut [u8], bytes: [u8; 4]) -> bool
     if out.len() < 4 {
         return false;
     }
-    out[..4].copy_from_slice(&bytes);
+    let [a, b, c, d] = bytes;
+    out[0] = a;
+    out[1] = b;
+    out[2] = c;
+    out[3] = d;
     true
 }
 

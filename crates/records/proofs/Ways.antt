@@ -14,6 +14,7 @@ use borrow.Author.Tests.{lt-ltb, ltb-true, leb-true, eqb-true}
 use Rattle.bits.specs.Bits.{◌is◌}
 use Rattle.bits.proofs.Logic.{both}
 use Rattle.buffers.specs.Splice.{splice}
+use Rattle.buffers.proofs.Splices.{four}
 use Rattle.chip.specs.declared.Chip.{Chip}
 use Rattle.chip.specs.Sound.{sound_chip}
 use Rattle.events.specs.declared.Event.{Event}
@@ -53,14 +54,6 @@ module _ (es : List ℕ) (i : ℕ) where
 
   pub event_is : 4 * i + 4 ≤ length es → event_at ≡ record_at
   event_is h = rw (← kind_at, ← byte_at 1 (omega arith), ← byte_at 2 (omega arith), ← byte_at 3 (omega arith)) (four record_at (omega (arith, h, length-take 4 (drop (4 * i) es), length-drop (4 * i) es)))
-    where
-      four : (xs : List ℕ) → length xs ≡ 4 → (get_or xs 0 0 ∷ get_or xs 1 0 ∷ get_or xs 2 0 ∷ get_or xs 3 0 ∷ []) ≡ xs
-      four [] h = absurd (omega (arith, h))
-      four (a ∷ []) h = absurd (omega (arith, h))
-      four (a ∷ b ∷ []) h = absurd (omega (arith, h))
-      four (a ∷ b ∷ c ∷ []) h = absurd (omega (arith, h))
-      four (a ∷ b ∷ c ∷ d ∷ []) h = refl
-      four (a ∷ b ∷ c ∷ d ∷ e ∷ xs) h = absurd (omega (arith, h))
 
 pub bytes_four : (a : Answer) (xs : List ℕ) → xs ≡ bytes_of a → length xs ≤ 4
 unfolding bytes_of

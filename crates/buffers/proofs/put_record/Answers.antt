@@ -1,7 +1,10 @@
 -- The goal of `buffers::put_record` with room: the buffer's start came back as the record. Assumes nothing.
-use Rattle.std.proofs.Common.{arith}
-use Rattle.buffers.proofs.Splices.{start_in_room}
+use Rattle.std.proofs.Common.{[], ◌∷◌, ◌∙◌, ap, rules}
+use Rattle.buffers.specs.Splice.{splice}
+use Rattle.buffers.proofs.Splices.{sets_splice, room, four}
 use Rattle.buffers.proofs.put_record.Goals as goal
 
 pub returns-clause-out_after : goal.returns-clause-out_after
-returns-clause-out_after c = start_in_room _ 4 _ _ (omega arith) c.copy_from_slice.ensures.len c.copy_from_slice.ensures.after
+returns-clause-out_after c =
+    rw (room _ 0 4 _ c.if-out-lt4.false)
+    (sets_splice _ 0 (_ ∷ _ ∷ _ ∷ _ ∷ []) c.if-out-lt4.false ∙ ap (splice c.args.out.now 0) (four c.args.bytes (search rules)))
