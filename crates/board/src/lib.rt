@@ -129,7 +129,6 @@ pub struct Touched {
 impl Touched {
     // What came of an event of kinds 3 to 7 at the chip `c`.
     #[tactic(auto, unfolding(crate::specs::Halves::acted_of))]
-    #[inline(always)]
     pub fn acted(c: Chip, place: u8, value: u8, outcome: Result<Acted, Refusal>) -> Touched
         ensures { result ≡ acted_of c place value outcome }
     {

@@ -52,6 +52,7 @@ pub struct Acted {
 }
 
 // One port obeys a control word. A entering or leaving mode 2 also lowers B's Ready.
+#[inline(always)]
 fn obey_word(c: Chip, on_b: bool, w: Word) -> Chip
     ensures { result ≡ obey (side on_b) w c }
 {

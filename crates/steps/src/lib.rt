@@ -37,8 +37,7 @@ fn touch(c: Chip, place: u8, what: Touch, value: u8) -> Touched
 
 // The place's chip is changed: it is put back, what is known follows, and the answer tells the request.
 #[tactic(auto, unfolding(board::specs::Halves::changed_of))]
-#[inline(always)]
-pub fn put(board: &mut Board, look: &mut Look, place: u8, t: Touched) -> Answer
+fn put(board: &mut Board, look: &mut Look, place: u8, t: Touched) -> Answer
     ensures { advanced board.new look.new result ≡ changed_of board.old look.old place t }
 {
     let k = place as usize / 2 % MOST;
