@@ -70,8 +70,8 @@ pub fn arg_count(rt: &impl Env) -> usize {
     usize::MAX
 }
 
-#[tactic(auto, using(crate::proofs::Sizes::asked))]
 // The size that an argument asks for: 4 without one, and refused where it is no size.
+#[tactic(auto, using(crate::proofs::Sizes::asked))]
 pub fn size_asked(rt: &impl Env, argument: usize) -> Result<usize, Refusal>
     ensures { MatchResult result (λ n. (1 ≤ n) × (n ≤ 4)) (λ r. r ≡ Refusal.Size) }
 {
