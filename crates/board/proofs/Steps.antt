@@ -8,22 +8,20 @@ use mathlib.Core.List.{List}
 use Prim.Native.Nat.{ℕ, ◌*◌, ◌/◌, ◌%◌, ◌≤◌, ◌<◌}
 use native.Mathlib.Omega.{arith}
 use lib.Dec.{ltb}
-use lib.ListN.{length, get_or, replicate}
+use lib.ListN.{length, get_or}
 use borrow.Author.Tests.{eq-eqb, ne_eqb, lt-ltb, le-ltb, le-leb, lt-leb, ltb-true, ltb-false}
 use Rattle.bits.specs.Bits.{◌is◌}
 use Rattle.bits.proofs.Logic.{by_cases}
 use Rattle.port.specs.Rules.{levels_now, driven_of}
 use Rattle.port.specs.declared.Port.{Port}
 use Rattle.refusals.specs.declared.Refusal.{Refusal}
-use Rattle.refusals.specs.declared.Refusal.TheVariants.{Place, Size, Unsound}
-use Rattle.chip.specs.declared.Chip.{Chip}
-use Rattle.chip.specs.Chip.{side, port, chip_fresh}
+use Rattle.refusals.specs.declared.Refusal.TheVariants.{Place, Unsound}
+use Rattle.chip.specs.Chip.{side, port}
 use Rattle.chain.specs.Chain.{most}
-use Rattle.chain.specs.Decode.{shut}
 use Rattle.chain.specs.Marks.{Marks, marks_of, caller_of}
 use Rattle.board.specs.declared.Board.{Board}
 use Rattle.board.specs.declared.Look.{Look}
-use Rattle.board.specs.Board.{there, size_ok, sound_all, sound_board, fresh_of, made_by, told_by, lines_of}
+use Rattle.board.specs.Board.{there, size_ok, sound_all, sound_board, told_by, lines_of}
 use Rattle.board.specs.Step.{place_of, value_of, refusal, answer, Stepped, refused, step_of}
 use Rattle.board.specs.Halves.{stirs_some, seen_of, blank, advanced_of, stepped}
 use Rattle.board.proofs.Ways.{seen_ok, seen_err}
@@ -46,16 +44,6 @@ size_most n e = by_cases (ltb most n) (λ h. absurd (true≢false (or_true (ltb 
     or_true : (a : Bool) → (a || true) ≡ false → true ≡ false
     or_true true e = e
     or_true false e = e
-
--- ---- a fresh board
-module _ (n : ℕ) where
-  pub fresh_refused : (ltb n 1 || ltb most n) ≡ true → made_by (Err Size) ≡ fresh_of n
-  unfolding fresh_of
-  fresh_refused e = rw (size_test n true e)
-
-  pub fresh_given : (c : Chip) → (ltb n 1 || ltb most n) ≡ false → c ≡ chip_fresh → made_by (Ok (record { size = n; chips = replicate most c; decoder = shut })) ≡ fresh_of n
-  unfolding fresh_of
-  fresh_given c e f = rw (size_test n false e, f)
 
 -- ---- what a look finds
 pub look_sizeless : (b : Board) → (ltb b.size 1 || ltb most b.size) ≡ true → Err Unsound ≡ seen_of b

@@ -5,7 +5,7 @@
 
 ghost use Rattle.std.specs.Prelude.{◌≡◌, length};
 ghost use Rattle.chain.specs.Chain.{most};
-ghost use Rattle.board.specs.Board.{made_by, fresh_of, told_by, lines_of};
+ghost use Rattle.board.specs.Board.{blank_board, made_by, fresh_of, told_by, lines_of};
 ghost use Rattle.board.specs.Step.{byte_of, bytes_of};
 ghost use Rattle.board.specs.Halves.{acted_of, stirs_port, stirs, seen_of, noted_of};
 
@@ -154,19 +154,26 @@ impl Touched {
     }
 }
 
+// A board of `size` chips as it comes.
+pub fn blank(size: u8) -> Board
+    ensures { result ≡ blank_board size }
+{
+    Board {
+        size: size,
+        chips: [chip::fresh_chip(); MOST],
+        decoder: Decoder { prefix: 0 },
+    }
+}
+
 // A fresh board of `size` chips.
-#[tactic(auto, using(crate::proofs::Steps::fresh_refused, crate::proofs::Steps::fresh_given))]
+#[tactic(auto, unfolding(crate::specs::Board::fresh_of))]
 pub fn fresh(size: usize) -> Result<Board, Refusal>
     ensures { made_by result ≡ fresh_of size }
 {
     if (size < 1) | (size > MOST) {
         return Err(Refusal::Size);
     }
-    Ok(Board {
-        size: size as u8,
-        chips: [chip::fresh_chip(); MOST],
-        decoder: Decoder { prefix: 0 },
-    })
+    Ok(blank(size as u8))
 }
 
 // Whether a fetch would make the port live.

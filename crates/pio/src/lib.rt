@@ -9,19 +9,7 @@ ghost use Rattle.board.specs.Board.{blank_board};
 ghost use Rattle.pio.specs.Calls.{FreshCall, StepCall, RunCall, WaveCall, LinesCall};
 
 use board::Board;
-use chain::{Decoder, MOST};
 use refusals::Refusal;
-
-// What stands for a board that was refused: a board of size 0.
-fn blank() -> Board
-    ensures { result ≡ blank_board 0 }
-{
-    Board {
-        size: 0,
-        chips: [chip::fresh_chip(); MOST],
-        decoder: Decoder { prefix: 0 },
-    }
-}
 
 // A fresh board of `size` chips; 33 and a board of size 0 for a size that no board has.
 pub fn pio_fresh(board: &mut Board, size: usize) -> u8
@@ -33,7 +21,7 @@ pub fn pio_fresh(board: &mut Board, size: usize) -> u8
             0
         }
         Err(refusal) => {
-            *board = blank();
+            *board = board::blank(0);
             refusal.into()
         }
     }
