@@ -110,10 +110,6 @@ room_rest xs a need ys b h short e =
 
 -- ---- Wrote
 
--- nothing written
-pub wrote_none : (old : List ℕ) (at : ℕ) → Wrote old at [] old at
-wrote_none old at = record { bytes = sym (splice_none old at); ends = omega arith }
-
 -- with that room it writes its block, and the other way round
 pub wrote_in_room : {old m : List ℕ} {at n : ℕ} {b : List ℕ} (need : ℕ) → at + need ≤ length old → Wrote old at b m n → Wrote old at (if_room old at need b) m n
 wrote_in_room {old} {m} {at} {n} {b} need h w = rw (room old at need b h) w
