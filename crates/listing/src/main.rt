@@ -48,6 +48,7 @@ impl Pages<PIECE, PAGE> for Listing {
     }
 }
 
+#[tactic(auto, using(crate::proofs::Answers::made, crate::proofs::Answers::made_sound))]
 fn main(rt: HostRuntime) {
     let board = board::fresh(4).unwrap();
     let mut listing = Listing {

@@ -26,6 +26,7 @@ const PAGE: usize = 639233;
 
 // The length that a file of `n` bytes is taken for. From `limit` on it is too long for any recording, its bytes matter no more, and of
 // its length only what is over after the last whole record.
+#[tactic(auto, using(crate::proofs::Lengths::short, crate::proofs::Lengths::long))]
 fn kept(n: usize, limit: usize) -> usize
     requires { limit ≤ 65540 }
     ensures value { result ≡ kept_of limit n }
@@ -38,6 +39,7 @@ fn kept(n: usize, limit: usize) -> usize
 }
 
 // Where the bytes behind the first `count` go: behind them, or to the start of the buffer when they matter no more.
+#[tactic(auto, using(crate::proofs::Lengths::behind, crate::proofs::Lengths::start))]
 fn next_at(count: usize, limit: usize) -> usize
     ensures value { result ≡ next_from limit count }
     ensures upper_bound { result ≤ limit }
@@ -186,6 +188,7 @@ fn show(
 }
 
 // Does nothing. Its contract: a file that is longer than its buffer is refused by its own length, in however many parts it is read.
+#[tactic(auto, using(crate::proofs::Lengths::read_in_parts, crate::proofs::Lengths::by_own_length))]
 fn long_files()
     ensures { ReadInParts × ByOwnLength }
 {}
