@@ -12,7 +12,7 @@ pub fn step(board: &mut Board, event: &[u8]) -> Answer
     ensures value { result ≡ (step_of board.old event.now).answer }
     ensures board_after { board.new ≡ (step_of board.old event.now).board }
 {
-    let Ok(event) = <[u8; 4]>::try_from(event) else {
+    let Ok(event) = <&[u8; 4]>::try_from(event) else {
         return Answer {
             code: Refusal::Length.into(),
             place: 0,
@@ -20,7 +20,7 @@ pub fn step(board: &mut Board, event: &[u8]) -> Answer
             request: 0,
         };
     };
-    let [_, place, value, _] = event;
+    let [_, place, value, _] = *event;
     match board::look_over(board) {
         Ok(mut look) => steps::advance(board, &mut look, event),
         Err(refusal) => Answer {

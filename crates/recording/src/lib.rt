@@ -64,7 +64,7 @@ fn scan(board: &mut Board, seen: Look, events: &[u8], stamps: &[u8], out: &mut [
     let mut shown = [2u8; 9];
     let mut time: u64 = 0;
     for (i, event) in records.iter().enumerate() {
-        let answer = steps::advance(board, &mut look, *event);
+        let answer = steps::advance(board, &mut look, event);
         let gap = frames::gap_after(stamps, i);
         if gap != 0 {
             let values = frames::values(board.size, board.chips, answer.request);

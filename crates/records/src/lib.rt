@@ -17,17 +17,13 @@ use chain::{Decoder, MOST};
 use chip::Chip;
 use events::Event;
 
-// Whether record i is there and is a fetch that changes the decoder alone.
-#[tactic(auto, using(bits::proofs::Tests::tests), unfolding(crate::specs::Fast::idles_of))]
-fn idles(events: &[u8], i: usize, decoder: Decoder, due: bool) -> bool
-    ensures { result ≡ idles_of decoder due events.now i }
+// Whether an event is a fetch that changes the decoder alone.
+#[tactic(auto, unfolding(crate::specs::Fast::idles_of))]
+fn idles(event: &[u8; 4], decoder: Decoder, due: bool) -> bool
+    ensures { result ≡ idles_of decoder due event.now }
 {
-    if i >= events.len() / 4 {
-        return false;
-    }
-    let at = 4 * i;
-    let value = events[at + 2];
-    (events[at] == 1) & (events[at + 1] == 0) & (events[at + 3] == 0) & !due & !decoder.reti(value)
+    let [kind, place, value, last] = *event;
+    (kind == 1) & (place == 0) & (last == 0) & !due & !decoder.reti(value)
 }
 
 // What an event of kinds 3 to 7 answers: a code and a value.
@@ -76,31 +72,21 @@ pub fn run_records(board: &mut Board, seen: Look, events: &[u8], answers: &mut [
     ensures answers_after { answers.new ≡ splice answers.old (4 * start) (answers_of board.old (records events.now)) }
     ensures answers_len_unchanged { length answers.new ≡ length answers.old }
 {
-    let n = events.len() / 4;
+    let (records, _) = events.as_chunks::<4>();
     let mut look = seen;
-    let mut i: usize = 0;
-    while i < n {
-        // Fetches that change the decoder alone, as long as there are such.
-        let mut decoder = board.decoder;
-        while idles(events, i, decoder, look.due) {
-            let value = events[4 * i + 2];
-            let to = 4 * (start + i);
-            i += 1;
-            decoder = decoder.next(value);
-            buffers::put_record(&mut answers[to..], [0, 0, value, look.request]);
-        }
-        board.decoder = decoder;
-        if i >= n {
-            break;
-        }
-        let at = 4 * i;
+    for (i, event) in records.iter().enumerate() {
+        let value = event[2];
         let to = 4 * (start + i);
-        let event = [events[at], events[at + 1], events[at + 2], events[at + 3]];
-        i += 1;
+        // A fetch that changes the decoder alone.
+        if idles(event, board.decoder, look.due) {
+            board.decoder = board.decoder.next(value);
+            buffers::put_record(&mut answers[to..], [0, 0, value, look.request]);
+            continue;
+        }
         // An event of kinds 3 to 7 changes its chip where it lies.
-        if let Ok(Doing::At(place, what)) = plans::read_event(board.size, event) {
+        if let Ok(Doing::At(place, what)) = plans::read_event(board.size, *event) {
             let k = place as usize / 2 % MOST;
-            let told = act(&mut board.chips[k], place % 2 == 1, what, event[2]);
+            let told = act(&mut board.chips[k], place % 2 == 1, what, value);
             look = look.noting(k, board.chips[k]);
             buffers::put_record(
                 &mut answers[to..],

@@ -124,11 +124,11 @@ fn carry(board: &mut Board, look: &mut Look, plan: Plan, value: u8) -> Answer
 
 // One event of four bytes on a sound board: the board and what is known of it are moved on.
 #[tactic(auto, unfolding(board::specs::Halves::advanced_of))]
-pub fn advance(board: &mut Board, look: &mut Look, event: [u8; 4]) -> Answer
-    ensures { advanced board.new look.new result ≡ advanced_of board.old look.old event }
+pub fn advance(board: &mut Board, look: &mut Look, event: &[u8; 4]) -> Answer
+    ensures { advanced board.new look.new result ≡ advanced_of board.old look.old event.now }
 {
-    let [_, place, value, _] = event;
-    match plans::read_event(board.size, event) {
+    let [_, place, value, _] = *event;
+    match plans::read_event(board.size, *event) {
         Ok(doing) => {
             let plan = plans::plan(board.decoder, *look, doing);
             board.decoder = plans::listen(board.decoder, doing);
