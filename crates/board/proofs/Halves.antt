@@ -46,7 +46,7 @@ use Rattle.board.specs.declared.Plan.TheVariants.{Nothing, One, Each}
 use Rattle.board.specs.declared.Touched.{Touched}
 use Rattle.board.specs.Board.{there, ports, port_at, within, sound_board, request_of}
 use Rattle.board.specs.Step.{kind_of, place_of, value_of, last_of, line, verdict, word_code, refusal, doing_of, decoder_after, taken, answer, answered, Stepped, accepted, refused, step_of}
-use Rattle.board.specs.Halves.{noted_of, early_at, read_of, named_by, freed_of, release_plan, fetch_plan, acknowledge_plan, plan_of, blank, index_of, touched, touched_by, acted_of, touched_of, changed_of, carried, listened, advanced_of, stepped}
+use Rattle.board.specs.Halves.{noted_of, early_at, read_of, named_by, freed_of, release_plan, fetch_plan, acknowledge_plan, plan_of, blank, index_of, touched, touched_by, acted_of, touched_of, changed_of, carried, listened, advanced_of, stepped, unread, halves_of}
 use Rattle.board.proofs.Tables.{word_lines, refusal_is, place_there, read_is, by_read, by_heard, plain, event_plain, event_control}
 use Rattle.board.proofs.Ports.{port_at_lem, none_released, none_answers, Still, fetch_free}
 use Rattle.board.proofs.There.{take_within, drop_within, within_set}
@@ -258,6 +258,11 @@ module _ (b : Board) (s : sound_board b ≡ true) (len : length b.chips ≡ most
   named_is true k = let e : k + 1 - 1 ≡ k = omega arith in rw (ne_eqb (k + 1) 0 (λ n. omega (arith, n)), e)
   named_is false k = refl
 
+  -- an event that isn't of four bytes
+  short : (e : List ℕ) → (length e is 4) ≡ false → unread b ≡ step_of b e
+  unfolding step_of
+  short e n = rw n
+
   module _ (due : Bool) (right : due ≡ false → Still (there b)) (e : List ℕ) (l : (length e is 4) ≡ true) where
     abbrev ends : Doing → Stepped
     ends g = stepped (carried (listened b g) (looked b due) (plan_of b.decoder (looked b due) g) (value_of e))
@@ -356,7 +361,10 @@ module _ (b : Board) (s : sound_board b ≡ true) (len : length b.chips ≡ most
           by_cases (kind_of e is 0) by_reset (λ i.
           by_cases (kind_of e is 2) by_acknowledge (by_place i j)))
 
-    -- THE HALVES ARE THE STEP
-    pub halves : stepped (advanced_of b (looked b due) e) ≡ step_of b e
+    four : stepped (advanced_of b (looked b due) e) ≡ step_of b e
     unfolding advanced_of
-    halves = by_read b.size e (λ r h z. rw h (refuses r h z)) (λ a. rw a (goes_on a))
+    four = by_read b.size e (λ r h z. rw h (refuses r h z)) (λ a. rw a (goes_on a))
+
+  -- THE HALVES ARE THE STEP
+  pub halves : (due : Bool) → (due ≡ false → Still (there b)) → (e : List ℕ) → halves_of b (looked b due) e ≡ step_of b e
+  halves due right e = by_cases (length e is 4) (λ n. rw n (four due right e n)) (λ n. rw n (short e n))

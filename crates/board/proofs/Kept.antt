@@ -170,7 +170,7 @@ module _ (b : Board) (l : Look) (k : Kept b l) where
 
     module _ (n : length e ≡ 4) where
       pub advances : stepped (advanced_of b l e) ≡ step_of b e
-      advances = rw look_is (halves b k.sound k.known.row l.due k.known.still e (eq-eqb (length e) 4 n))
+      advances = rw look_is (rw (eq-eqb (length e) 4 n) at (halves b k.sound k.known.row l.due k.known.still e))
 
       pub keeps : ltb (value_of e) 256 ≡ true → Kept (advanced_of b l e).board (advanced_of b l e).look
       keeps byte = record {

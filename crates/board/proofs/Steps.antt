@@ -1,15 +1,15 @@
 -- The step of any board, sound or not, and the driven lines: what a look at the board, a lent step and the question for driven lines
 -- come to.
 -- Assumes nothing.
-use Rattle.std.specs.Prelude.{Ok, Err}
-use mathlib.Core.Path.{◌≡◌, sym, ap, ◌∙◌}
+use Rattle.std.specs.Prelude.{Result, Ok, Err}
+use mathlib.Core.Path.{◌≡◌, refl, sym, ap, ◌∙◌}
 use mathlib.Core.Bool.{Bool, true, false, ◌||◌, not, true≢false}
 use mathlib.Core.List.{List}
 use Prim.Native.Nat.{ℕ, ◌*◌, ◌/◌, ◌%◌, ◌≤◌, ◌<◌}
 use native.Mathlib.Omega.{arith}
 use lib.Dec.{ltb}
 use lib.ListN.{length, get_or}
-use borrow.Author.Tests.{eq-eqb, ne_eqb, lt-ltb, le-ltb, le-leb, lt-leb, ltb-true, ltb-false}
+use borrow.Author.Tests.{eq-eqb, ne_eqb, eqb-true, lt-ltb, le-ltb, le-leb, lt-leb, ltb-true, ltb-false}
 use Rattle.bits.specs.Bits.{◌is◌}
 use Rattle.bits.proofs.Logic.{by_cases}
 use Rattle.port.specs.Rules.{levels_now, driven_of}
@@ -22,8 +22,8 @@ use Rattle.chain.specs.Marks.{Marks, marks_of, caller_of}
 use Rattle.board.specs.declared.Board.{Board}
 use Rattle.board.specs.declared.Look.{Look}
 use Rattle.board.specs.Board.{there, size_ok, sound_all, sound_board, told_by, lines_of}
-use Rattle.board.specs.Step.{place_of, value_of, refusal, answer, Stepped, refused, step_of}
-use Rattle.board.specs.Halves.{stirs_some, seen_of, blank, advanced_of, stepped}
+use Rattle.board.specs.Step.{refusal, refused, step_of}
+use Rattle.board.specs.Halves.{stirs_some, seen_of, blank, unread, first_by, first_of}
 use Rattle.board.proofs.Ways.{seen_ok, seen_err}
 use Rattle.board.proofs.Ports.{quiet}
 use Rattle.board.proofs.Halves.{size_fits, port_there}
@@ -59,20 +59,7 @@ pub look_sound : (b : Board) (s d : Bool) (ms : Marks) (r : ℕ) → (ltb b.size
 unfolding seen_of sound_board
 look_sound b s d ms r e i f j k q = rw (size_test b.size false e, ← i, f, q, j, k)
 
--- ---- the ways out of a step of any board
-module _ (b : Board) (e : List ℕ) where
-  pub step_short : (length e ≡ 4 → ⊥) → ◌≡◌ {A = Stepped} (record { board = b; answer = answer 32 0 0 0 }) (step_of b e)
-  unfolding step_of
-  step_short n = rw (ne_eqb (length e) 4 n)
-
-  unsound_refused : sound_board b ≡ false → refusal b e ≡ 35
-  unfolding refusal
-  unsound_refused s = rw s
-
-  pub step_unsound : (r : Refusal) → length e ≡ 4 → Err r ≡ seen_of b → ◌≡◌ {A = Stepped} (record { board = b; answer = answer 35 (place_of e) (value_of e) 0 }) (step_of b e)
-  unfolding step_of refused
-  step_unsound r n h = let s = (seen_err b r h).0 in rw (eq-eqb (length e) 4 n, unsound_refused s, s)
-
+-- ---- what is known at the start
 pub kept_begins : (b : Board) (l : Look) → length b.chips ≡ most → Ok l ≡ seen_of b → Kept b l
 kept_begins b l len h =
     let x = seen_ok b l h in
@@ -86,9 +73,31 @@ kept_begins b l len h =
       };
     }
 
--- THE STEP OF A BOARD THAT WAS LOOKED OVER IS ITS HALVES
-pub step_looked : (b : Board) (l : Look) (e : List ℕ) → length b.chips ≡ most → Ok l ≡ seen_of b → length e ≡ 4 → stepped (advanced_of b l e) ≡ step_of b e
-step_looked b l e len h n = advances b l (kept_begins b l len h) e n
+-- ---- any event of any board
+unsound_refused : (b : Board) (e : List ℕ) → sound_board b ≡ false → refusal b e ≡ 35
+unfolding refusal
+unsound_refused b e s = rw s
+
+pub step_short : (b : Board) (e : List ℕ) → (length e ≡ 4 → ⊥) → unread b ≡ step_of b e
+unfolding step_of
+step_short b e n = rw (ne_eqb (length e) 4 n)
+
+module _ (b : Board) (e : List ℕ) (len : length b.chips ≡ most) where
+  unsound : (r : Refusal) → (length e is 4) ≡ true → Err r ≡ seen_of b → first_by b e (Err r) ≡ step_of b e
+  unfolding step_of refused
+  unsound r n h = let x = seen_err b r h in rw (n, unsound_refused b e x.0, x.0, x.1)
+
+  looked_over : (r : Result Look Refusal) → (length e is 4) ≡ true → r ≡ seen_of b → first_by b e r ≡ step_of b e
+  looked_over (Ok l) n h = advances b l (kept_begins b l len h) e (eqb-true (length e) 4 n)
+  looked_over (Err r) n h = unsound r n h
+
+-- THE STEP OF ANY BOARD IS ITS HALVES, BEHIND A LOOK AT THE BOARD
+pub first_is : (b : Board) (e : List ℕ) → length b.chips ≡ most → first_of b e ≡ step_of b e
+first_is b e len = by_cases (length e is 4) (λ n. rw n (looked_over b e len (seen_of b) n refl)) (λ n. rw n (step_short b e (λ l. absurd (true≢false (sym (eq-eqb (length e) 4 l) ∙ n)))))
+
+-- so it is where the event has four bytes and r is what the look gave
+pub first_seen : (b : Board) (e : List ℕ) (r : Result Look Refusal) → length b.chips ≡ most → length e ≡ 4 → r ≡ seen_of b → first_by b e r ≡ step_of b e
+first_seen b e r len n h = ap (first_by b e) h ∙ (rw (eq-eqb (length e) 4 n) at (first_is b e len))
 
 -- ---- the driven lines
 module _ (b : Board) (place : ℕ) where

@@ -2,7 +2,7 @@
 -- what is known of the chips; and what then happens to one chip or to all. Nothing here need be believed: `advances` in proofs/ says that
 -- on a sound board the two together are `step_of`.
 -- Assumes nothing.
-use Rattle.std.specs.Prelude.{Bool, false, ◌&&◌, ◌||◌, not, List, [], ◌∷◌, map, ℕ, ◌-◌, ◌/◌, ◌%◌, ltb, get_or, set, take, Option, Some, None, Result, Ok, Err, if◌then◌else◌}
+use Rattle.std.specs.Prelude.{Bool, false, ◌&&◌, ◌||◌, not, List, [], ◌∷◌, map, length, ℕ, ◌-◌, ◌/◌, ◌%◌, ltb, get_or, set, take, Option, Some, None, Result, Ok, Err, if◌then◌else◌}
 use Rattle.bits.specs.Bits.{◌is◌}
 use Rattle.port.specs.declared.Port.{Port}
 use Rattle.refusals.specs.declared.Refusal.{Refusal}
@@ -190,3 +190,21 @@ advanced_of b l e = advanced_by b l e (read_of b.size e)
 -- what of it a step tells
 abbrev pub stepped : Advanced → Stepped
 stepped a = record { board = a.board; answer = a.answer }
+
+-- ---- any event of any board
+-- an event that isn't of four bytes moves nothing
+abbrev pub unread : Board → Stepped
+unread b = record { board = b; answer = answer 32 0 0 0 }
+
+-- the two halves, whatever the event's length
+abbrev pub halves_of : Board → Look → List ℕ → Stepped
+halves_of b l e = if not (length e is 4) then unread b else stepped (advanced_of b l e)
+
+-- what a look at the board leads to
+abbrev pub first_by : Board → List ℕ → Result Look Refusal → Stepped
+first_by b e (Ok l) = stepped (advanced_of b l e)
+first_by b e (Err r) = record { board = b; answer = answer (number_of r) (place_of e) (value_of e) 0 }
+
+-- the step of a board of which nothing is known: it is looked over first
+abbrev pub first_of : Board → List ℕ → Stepped
+first_of b e = if not (length e is 4) then unread b else first_by b e (seen_of b)

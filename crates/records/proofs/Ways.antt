@@ -125,6 +125,17 @@ passes : (b : Board) (l : Look) (v : ℕ) → 1 ≤ b.size → l.due ≡ false �
 unfolding advanced_of read_of doing_of fetch_plan freed_of carried
 passes b l v s d r = rw (lt-ltb 0 (b.size * 2) (omega (arith, s)), d, r)
 
+-- ---- the chip at an index of a sound board
+sound_at : (cs : List Chip) (k : ℕ) → sound_all cs ≡ true → k < length cs → sound_chip (get_or cs k blank) ≡ true
+sound_at [] k h n = absurd (not-suc-le-zero n)
+sound_at (c ∷ cs) zero h n = (both (sound_chip c) (sound_all cs) h).0
+sound_at (c ∷ cs) (suc k) h n = sound_at cs k (both (sound_chip c) (sound_all cs) h).1 (le_of_suc-le-suc n)
+
+chip_sound : (b : Board) (k : ℕ) → sound_board b ≡ true → length b.chips ≡ most → k < b.size → sound_chip (get_or b.chips k blank) ≡ true
+chip_sound b k s row h =
+    rw (← get_or-take b.size b.chips k blank h)
+    (sound_at (there b) k (parts b s).1 (omega (arith, h, length-take b.size b.chips, row, size_fits b s row)))
+
 module _ {es old : List ℕ} {start : ℕ} {b₀ : Board} {out : List ℕ} {b : Board} {l : Look} {i : ℕ} {event : List ℕ} (g : Going es old start b₀ out b l i event) where
   pub passing_turn : (d : Decoder) (out' : List ℕ) → idles_of b.decoder l.due event ≡ true → d ≡ next_of b.decoder (value_of event)
       → out' ≡ splice out (4 * (start + i)) (0 ∷ 0 ∷ value_of event ∷ l.request ∷ [])
@@ -138,17 +149,6 @@ module _ {es old : List ℕ} {start : ℕ} {b₀ : Board} {out : List ℕ} {b : 
       (rw e (passes b l v (size_some b g.kept.sound) k.quiet k.plain ∙ ap (advanced_of b l) whole)) o
 
   -- ---- an event of kinds 3 to 7
-  sound_at : (cs : List Chip) (k : ℕ) → sound_all cs ≡ true → k < length cs → sound_chip (get_or cs k blank) ≡ true
-  sound_at [] k h n = absurd (not-suc-le-zero n)
-  sound_at (c ∷ cs) zero h n = (both (sound_chip c) (sound_all cs) h).0
-  sound_at (c ∷ cs) (suc k) h n = sound_at cs k (both (sound_chip c) (sound_all cs) h).1 (le_of_suc-le-suc n)
-
-  chip_sound : (place : ℕ) → index_of place < b.size → sound_chip (chip_at b place) ≡ true
-  chip_sound place h =
-      rw (← get_or-take b.size b.chips (index_of place) blank h)
-      (sound_at (there b) (index_of place) (parts b g.kept.sound).1
-      (omega (arith, h, length-take b.size b.chips, g.kept.known.row, size_fits b g.kept.sound g.kept.known.row)))
-
   acts : (place : ℕ) (e : Event) (v : ℕ) → read_of b.size (event) ≡ Ok (At place e) → v ≡ value_of event
       → changed_of b l place (touched_by place (act_of (side_of place) e v (chip_at b place))) ≡ advanced_of b l (event)
   unfolding advanced_of carried touched_of acted_of
@@ -162,7 +162,7 @@ module _ {es old : List ℕ} {start : ℕ} {b₀ : Board} {out : List ℕ} {b : 
   unfolding changed_of bytes_of
   act_turn place e c code shown m out' r f n o =
       let h = planned_within b l g.kept (event) (At place e) r in
-      let x = f (chip_sound place h) in
+      let x = f (chip_sound b (index_of place) g.kept.sound g.kept.known.row h) in
       let k : index_of place < length b.chips = omega (arith, h, g.kept.known.row, size_fits b g.kept.sound g.kept.known.row) in
       let s = get_or-set_same b.chips (index_of place) c blank k in
       advance_turn g (advanced (record { size = b.size; chips = set b.chips (index_of place) c; decoder = b.decoder }) m (answer code place shown m.request)) out'

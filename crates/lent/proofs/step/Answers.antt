@@ -1,10 +1,9 @@
 -- `lent::step`: no record, a board that is not sound, or a step.
 -- Assumes nothing.
-use Rattle.std.proofs.Common.{◌≡◌, ap, ◌∙◌, List, ℕ}
+use Rattle.std.proofs.Common.{◌≡◌, ap, ◌∙◌, List, ℕ, Ok, Err}
 use Rattle.board.specs.Step.{Stepped, step_of}
 use Rattle.board.specs.Halves.{advanced, advanced_of, stepped}
-use Rattle.board.proofs.Ways.{seen_err}
-use Rattle.board.proofs.Steps.{step_short, step_unsound, step_looked}
+use Rattle.board.proofs.Steps.{step_short, first_seen}
 use Rattle.lent.proofs.step.Goals as goal
 
 pub returns-in_default : goal.returns-in_default
@@ -19,10 +18,10 @@ returns-in-Ok-look_over c =
     let b = c.args.board.now in
     let l = c.in-Ok-look_over.look in
     let e : stepped (advanced c.advance.new.board c.advance.new.look c.advance.result) ≡ step_of b c.args.event.now =
-    ap stepped c.advance.ensures ∙ ap (λ (e : List ℕ). stepped (advanced_of b l e)) four.same ∙ step_looked b l c.args.event.now seen.1 seen.0 four.long in
+    ap stepped c.advance.ensures ∙ ap (λ (e : List ℕ). stepped (advanced_of b l e)) four.same ∙ first_seen b c.args.event.now (Ok l) seen.1 four.long seen.0 in
     record { value = ap (λ (s : Stepped). s.answer) e; board_after = ap (λ (s : Stepped). s.board) e }
 
 pub returns-in-Err : goal.returns-in-Err
 returns-in-Err c =
-    let e = step_unsound c.args.board.now c.args.event.now c.in-Err.refusal c.in-Ok.ensures.1.long c.in-Err.ensures.0 in
-    record { value = rw (c.in-Ok.ensures.1.same, c.into-in-Err.ensures, (seen_err c.args.board.now c.in-Err.refusal c.in-Err.ensures.0).1) (ap (λ (s : Stepped). s.answer) e); board_after = ap (λ (s : Stepped). s.board) e }
+    let e = first_seen c.args.board.now c.args.event.now (Err c.in-Err.refusal) c.in-Err.ensures.1 c.in-Ok.ensures.1.long c.in-Err.ensures.0 in
+    record { value = rw (c.in-Ok.ensures.1.same, c.into-in-Err.ensures) (ap (λ (s : Stepped). s.answer) e); board_after = ap (λ (s : Stepped). s.board) e }
