@@ -10,7 +10,7 @@ use native.Mathlib.Nat.{not-suc-le-zero, le_of_suc-le-suc}
 use native.Mathlib.Omega.{arith}
 use lib.Dec.{ltb}
 use borrow.Author.Tests.{ltb-true, ltb-false}
-use lib.ListN.{length, length-set, get_or, set, take, drop}
+use lib.ListN.{length, length-set, length-take, get_or, set, take, drop, drop_of_length-le}
 use lib.Seq.{set-get_or, get_or-take}
 use Rattle.bits.proofs.Logic.{by_cases}
 use Rattle.chip.specs.declared.Chip.{Chip}
@@ -98,13 +98,13 @@ module _ (n : ℕ) (cs : List Chip) where
   look_begins ms h e = record { sounds = refl; dues = refl; marked = e ∙ none_marked most cs h }
 
   pub look_turns :
-      {s d : Bool} {ms : Marks} {i : ℕ} (x y : Bool) (next : Marks) → Looking s d ms i → i < n → i < length cs
-      → x ≡ sound_chip (get_or (take n cs) i blank) → y ≡ stirs (get_or (take n cs) i blank) → next ≡ marked_of ms i (get_or (take n cs) i blank) → Looking (s && x) (d || y) next (i + 1)
-  look_turns {s} {d} {ms} {i} x y next l h k ex ey en =
+      {s d : Bool} {ms : Marks} {i : ℕ} (m : ℕ) (x y : Bool) (next : Marks) → Looking s d ms i → i < n → i < length cs → i < m
+      → x ≡ sound_chip (get_or (take m cs) i blank) → y ≡ stirs (get_or (take m cs) i blank) → next ≡ marked_of ms i (get_or (take m cs) i blank) → Looking (s && x) (d || y) next (i + 1)
+  look_turns {s} {d} {ms} {i} m x y next l h k g ex ey en =
       let rest = left_turn i n cs blank h k in
       let past = drop (i + 1) (take n cs) in
       let c = get_or cs i blank in
-      let here : get_or (take n cs) i blank ≡ c = get_or-take n cs i blank h in
+      let here : get_or (take m cs) i blank ≡ c = get_or-take m cs i blank g in
       record {
         sounds = rw (ex, here) (and_moves s (sound_chip c) (sound_all past) ∙ (rw (rest) at l.sounds));
         dues = rw (ey, here) (or_moves d (stirs c) (stirs_some past) ∙ (rw (rest) at l.dues));
@@ -119,10 +119,18 @@ module _ (n : ℕ) (cs : List Chip) where
   or_end true = refl
   or_end false = refl
 
-  pub look_ends : {s d : Bool} {ms : Marks} {i : ℕ} → Looking s d ms i → i ≡ n → (s ≡ sound_all (take n cs)) × ((d ≡ stirs_some (take n cs)) × (ms ≡ marks_of n cs))
-  look_ends {s} {d} {ms} {i} l t =
-      let e = left_done i n cs (omega (arith, t)) in
-      (sym (and_end s) ∙ (rw e at l.sounds), (sym (or_end d) ∙ (rw e at l.dues), l.marked ∙ ap (λ (j : ℕ). marks_of j cs) t))
+  look_through : {s d : Bool} {ms : Marks} {i : ℕ} → Looking s d ms i → drop i (take n cs) ≡ [] → ms ≡ marks_of n cs
+      → (s ≡ sound_all (take n cs)) × ((d ≡ stirs_some (take n cs)) × (ms ≡ marks_of n cs))
+  look_through {s} {d} l e m = (sym (and_end s) ∙ (rw e at l.sounds), (sym (or_end d) ∙ (rw e at l.dues), m))
+
+  pub look_ends : {s d : Bool} {ms : Marks} {i : ℕ} (m : ℕ) → Looking s d ms i → length cs ≡ m → i ≡ min m n
+      → (s ≡ sound_all (take n cs)) × ((d ≡ stirs_some (take n cs)) × (ms ≡ marks_of n cs))
+  look_ends {s} {d} {ms} {i} m l e t =
+      by_cases (ltb n m)
+      (λ h. let k : i ≡ n = omega (arith, t, ltb-true n m h) in look_through l (left_done i n cs (omega (arith, k))) (l.marked ∙ ap (λ (j : ℕ). marks_of j cs) k))
+      (λ h. let k : m ≤ i = omega (arith, t, ltb-false n m h) in
+      look_through l (drop_of_length-le (take n cs) {i = i} (omega (arith, length-take n cs, e, k)))
+      (l.marked ∙ all_marked i n cs (rw e k) (omega (arith, t, ltb-false n m h))))
 
 -- ---- each chip that is there changed in its turn
 module _ (f : Chip → Chip) (n : ℕ) (cs : List Chip) where

@@ -3,11 +3,11 @@
 -- Assumes nothing.
 use Rattle.std.specs.Prelude.{Result, Ok, Err}
 use mathlib.Core.Path.{◌≡◌, refl, sym, ap, ◌∙◌}
-use mathlib.Core.Bool.{Bool, true, false, ◌||◌, not, true≢false}
+use mathlib.Core.Bool.{Bool, true, false, ◌||◌, not, true≢false, ◌&&◌}
 use mathlib.Core.List.{List}
 use Prim.Native.Nat.{ℕ, ◌*◌, ◌/◌, ◌%◌, ◌≤◌, ◌<◌}
 use native.Mathlib.Omega.{arith}
-use lib.Dec.{ltb}
+use lib.Dec.{ltb, leb}
 use lib.ListN.{length, get_or}
 use borrow.Author.Tests.{eq-eqb, ne_eqb, eqb-true, lt-ltb, le-ltb, le-leb, lt-leb, ltb-true, ltb-false}
 use Rattle.bits.specs.Bits.{◌is◌}
@@ -15,49 +15,35 @@ use Rattle.bits.proofs.Logic.{by_cases}
 use Rattle.port.specs.Rules.{levels_now, driven_of}
 use Rattle.port.specs.declared.Port.{Port}
 use Rattle.refusals.specs.declared.Refusal.{Refusal}
-use Rattle.refusals.specs.declared.Refusal.TheVariants.{Place, Unsound}
+use Rattle.refusals.specs.declared.Refusal.TheVariants.{Place}
 use Rattle.chip.specs.Chip.{side, port}
 use Rattle.chain.specs.Chain.{most}
 use Rattle.chain.specs.Marks.{Marks, marks_of, caller_of}
 use Rattle.board.specs.declared.Board.{Board}
 use Rattle.board.specs.declared.Look.{Look}
 use Rattle.board.specs.Board.{there, size_ok, sound_all, sound_board, told_by, lines_of}
-use Rattle.board.specs.Step.{refusal, refused, step_of}
-use Rattle.board.specs.Halves.{stirs_some, seen_of, blank, unread, first_by, first_of}
+use Rattle.board.specs.Step.{refusal, refused, step_of, place_of, value_of, answer, Stepped}
+use Rattle.board.specs.Halves.{stirs_some, seen_of, blank, unread, first_by, first_of, look_of, looked_of, advanced_of, stepped}
 use Rattle.board.proofs.Ways.{seen_ok, seen_err}
 use Rattle.board.proofs.Ports.{quiet}
 use Rattle.board.proofs.Halves.{size_fits, port_there}
 use Rattle.board.proofs.Kept.{Kept, advances}
 
--- ---- the size of a board
-pub size_test : (n : ℕ) (t : Bool) → (ltb n 1 || ltb most n) ≡ t → size_ok n ≡ not t
-size_test n t e =
-    by_cases (ltb n 1)
-    (λ h. rw (← e, h, lt-leb 1 n (ltb-true n 1 h)))
-    (λ h. by_cases (ltb most n)
-    (λ k. rw (← e, h, k, lt-leb n most (ltb-true most n k), le-leb 1 n (ltb-false n 1 h)))
-    (λ k. rw (← e, h, k, le-leb n most (ltb-false most n k), le-leb 1 n (ltb-false n 1 h))))
-
-pub size_most : (n : ℕ) → (ltb n 1 || ltb most n) ≡ false → n ≤ most
-size_most n e = by_cases (ltb most n) (λ h. absurd (true≢false (or_true (ltb n 1) (rw h at e)))) (λ h. ltb-false most n h)
-  where
-    or_true : (a : Bool) → (a || true) ≡ false → true ≡ false
-    or_true true e = e
-    or_true false e = e
-
 -- ---- what a look finds
-pub look_sizeless : (b : Board) → (ltb b.size 1 || ltb most b.size) ≡ true → Err Unsound ≡ seen_of b
-unfolding seen_of sound_board
-look_sizeless b e = rw (size_test b.size true e)
-
-pub look_unsound : (b : Board) (s : Bool) → (ltb b.size 1 || ltb most b.size) ≡ false → s ≡ sound_all (there b) → s ≡ false → Err Unsound ≡ seen_of b
-unfolding seen_of sound_board
-look_unsound b s e i f = rw (size_test b.size false e, ← i, f)
-
-pub look_sound : (b : Board) (s d : Bool) (ms : Marks) (r : ℕ) → (ltb b.size 1 || ltb most b.size) ≡ false → s ≡ sound_all (there b) → s ≡ true → d ≡ stirs_some (there b) → ms ≡ marks_of b.size b.chips
-    → r ≡ caller_of ms → Ok (record { marks = ms; due = d; request = r }) ≡ seen_of b
-unfolding seen_of sound_board
-look_sound b s d ms r e i f j k q = rw (size_test b.size false e, ← i, f, q, j, k)
+pub looked : (b : Board) (s d f g : Bool) (ms : Marks) (r : ℕ) → f ≡ leb 1 b.size → g ≡ leb b.size most → s ≡ sound_all (there b) → d ≡ stirs_some (there b) → ms ≡ marks_of b.size b.chips
+    → r ≡ caller_of ms → (s && f && g, record { marks = ms; due = d; request = r }) ≡ looked_of b
+unfolding sound_board
+looked b s d f g ms r ef eg i j k q = rw (ef, eg, i, q, j, k) (ap (λ (x : Bool). (x, look_of b.size b.chips)) (turned (sound_all (there b)) (leb 1 b.size) (leb b.size most)))
+  where
+    turned : (x y z : Bool) → (x && y && z) ≡ (y && z && x)
+    turned true true true = refl
+    turned true true false = refl
+    turned true false true = refl
+    turned true false false = refl
+    turned false true true = refl
+    turned false true false = refl
+    turned false false true = refl
+    turned false false false = refl
 
 -- ---- what is known at the start
 pub kept_begins : (b : Board) (l : Look) → length b.chips ≡ most → Ok l ≡ seen_of b → Kept b l

@@ -47,6 +47,10 @@ stirs_some (c ∷ cs) = stirs c || stirs_some cs
 abbrev pub look_of : ℕ → List Chip → Look
 look_of n cs = record { marks = marks_of n cs; due = stirs_some (take n cs); request = caller_of (marks_of n cs) }
 
+-- whether the board is sound, and what is known of its chips
+abbrev pub looked_of : Board → Bool × Look
+looked_of b = (sound_board b, look_of b.size b.chips)
+
 unfoldable pub seen_of : Board → Result Look Refusal
 seen_of b = if sound_board b then Ok (look_of b.size b.chips) else Err Unsound
 

@@ -7,7 +7,7 @@ ghost use Rattle.std.specs.Prelude.{◌≡◌, length};
 ghost use Rattle.chain.specs.Chain.{most};
 ghost use Rattle.board.specs.Board.{blank_board, made_by, fresh_of, told_by, lines_of};
 ghost use Rattle.board.specs.Step.{byte_of, bytes_of};
-ghost use Rattle.board.specs.Halves.{acted_of, stirs_port, stirs, seen_of, noted_of};
+ghost use Rattle.board.specs.Halves.{acted_of, stirs_port, stirs, looked_of, seen_of, noted_of};
 
 use chain::{Decoder, MOST, Marks};
 use chip::Chip;
@@ -36,10 +36,10 @@ pub struct Answer {
 // The code of an event that was not refused: it was done, or it was a read or an acknowledge, which a port answers or nobody.
 #[derive(Clone, Copy)]
 pub enum Code {
-    Done,
-    Data,
-    Answered,
-    Nobody,
+    Done = 0,
+    Data = 1,
+    Answered = 2,
+    Nobody = 3,
 }
 
 impl From<Code> for u8 {
@@ -48,12 +48,7 @@ impl From<Code> for u8 {
     fn from(c: Code) -> u8
         ensures { result ≡ byte_of c }
     {
-        match c {
-            Code::Done => 0,
-            Code::Data => 1,
-            Code::Answered => 2,
-            Code::Nobody => 3,
-        }
+        c as u8
     }
 }
 
@@ -206,32 +201,39 @@ impl Look {
     }
 }
 
-// One look at every chip that is there; refused where the board is not sound.
-pub fn look_over(board: &Board) -> Result<Look, Refusal>
-    ensures { (result ≡ seen_of board.now) × (length board.now.chips ≡ most) }
+// One look at every chip that is there: whether the board is sound, and what is known of its chips.
+pub fn look_over(board: &Board) -> (bool, Look)
+    ensures { (result ≡ looked_of board.now) × (length board.now.chips ≡ most) }
 {
     let chips = &board.chips;
     let n = board.size as usize;
-    if (n < 1) | (n > MOST) {
-        return Err(Refusal::Unsound);
-    }
     let mut sound = true;
     let mut due = false;
     let mut marks = chain::unmarked();
-    for (k, c) in chips[..n].iter().enumerate() {
+    for (k, c) in chips[..MOST.min(n)].iter().enumerate() {
         sound = sound & chip::sound(*c);
         due = due | stirred(*c);
         let more = chain::marked(marks, k, *c);
         marks = more;
     }
-    if !sound {
-        return Err(Refusal::Unsound);
-    }
-    Ok(Look {
+    let look = Look {
         marks: marks,
         due: due,
         request: chain::caller(marks),
-    })
+    };
+    (sound & (n >= 1) & (n <= MOST), look)
+}
+
+// The same; refused where the board is not sound.
+#[tactic(auto, unfolding(crate::specs::Halves::seen_of))]
+pub fn sound_look(board: &Board) -> Result<Look, Refusal>
+    ensures { (result ≡ seen_of board.now) × (length board.now.chips ≡ most) }
+{
+    let (sound, look) = look_over(board);
+    if !sound {
+        return Err(Refusal::Unsound);
+    }
+    Ok(look)
 }
 
 // The lines driven at a place.
@@ -239,7 +241,7 @@ pub fn look_over(board: &Board) -> Result<Look, Refusal>
 pub fn driven_lines(board: &Board, place: usize) -> Result<Lines, Refusal>
     ensures { told_by result ≡ lines_of board.now place }
 {
-    look_over(board)?;
+    sound_look(board)?;
     let k = place / 2;
     if k >= board.size as usize {
         return Err(Refusal::Place);

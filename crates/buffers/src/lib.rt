@@ -86,19 +86,6 @@ fn separator(left: usize) -> u8
     if left == 0 { b'\n' } else { b' ' }
 }
 
-// The digits of a number of a row. Most are flags and codes of one digit, which are stored at once.
-#[tactic(auto, using(crate::proofs::Decimals::digits_one, crate::proofs::Decimals::length_one, crate::proofs::Splices::set_splice))]
-fn number(out: &mut [u8], at: usize, n: u64) -> usize
-    requires { at + length (digits_of n) ≤ length out.old }
-    ensures { Wrote out.old at (digits_of n) out.new result }
-{
-    if n <= 9 {
-        out[at] = b'0' + n as u8;
-        return at + 1;
-    }
-    digits(out, at, n)
-}
-
 // The row of `numbers`, number by number, where there is room for it.
 fn row(out: &mut [u8], at: usize, numbers: &[u64]) -> usize
     requires { at + 21 * length numbers.now ≤ length out.old }
@@ -107,7 +94,7 @@ fn row(out: &mut [u8], at: usize, numbers: &[u64]) -> usize
 {
     let mut next = at;
     for (i, n) in numbers.iter().enumerate() {
-        next = number(out, next, *n);
+        next = digits(out, next, *n);
         out[next] = separator(numbers.len() - (i + 1));
         next += 1;
     }

@@ -21,7 +21,7 @@ pub fn step(board: &mut Board, event: &[u8]) -> Answer
         };
     };
     let [_, place, value, _] = *event;
-    match board::look_over(board) {
+    match board::sound_look(board) {
         Ok(mut look) => steps::advance(board, &mut look, event),
         Err(refusal) => Answer {
             code: refusal.into(),

@@ -88,7 +88,7 @@ pub fn export(
     ensures value { exported_by board.new result ≡ exported_of board.old events.now stamps.now (length out.old) }
     ensures out_after { out.new ≡ page_of board.old events.now stamps.now out.old }
 {
-    let look = board::look_over(board)?;
+    let look = board::sound_look(board)?;
     check(events.len(), stamps.len(), 257, out.len())?;
     if out.len() < 257 + 39 * (events.len() / 4) {
         let mut measured = *board;

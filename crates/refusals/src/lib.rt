@@ -8,29 +8,29 @@ ghost use Rattle.refusals.specs.Numbers.{number_of};
 #[derive(Clone, Copy, PartialEq, Eq)]
 pub enum Refusal {
     // of an event: a kind above 7
-    Kind,
+    Kind = 16,
     // a place that is not on the board, or not 0 in an event of the whole board
-    Place,
+    Place = 17,
     // a value not allowed for the kind, or a fourth byte that is not 0
-    Value,
+    Value = 18,
     // a control word of no defined form
-    NoForm,
+    NoForm = 19,
     // a mode 2 word to a B port
-    NotOnB,
+    NotOnB = 20,
     // bytes that are not whole records
-    Length,
+    Length = 32,
     // a size outside 1 to 4
-    Size,
+    Size = 33,
     // an answer buffer without the room
-    Room,
+    Room = 34,
     // a board that is not sound
-    Unsound,
+    Unsound = 35,
     // more records than an export takes
-    Records,
+    Records = 36,
     // a text longer than its buffer
-    Text,
+    Text = 40,
     // other than two stamp bytes for each record
-    Stamps,
+    Stamps = 41,
 }
 
 impl From<Refusal> for u8 {
@@ -39,19 +39,6 @@ impl From<Refusal> for u8 {
     fn from(r: Refusal) -> u8
         ensures { result ≡ number_of r }
     {
-        match r {
-            Refusal::Kind => 16,
-            Refusal::Place => 17,
-            Refusal::Value => 18,
-            Refusal::NoForm => 19,
-            Refusal::NotOnB => 20,
-            Refusal::Length => 32,
-            Refusal::Size => 33,
-            Refusal::Room => 34,
-            Refusal::Unsound => 35,
-            Refusal::Records => 36,
-            Refusal::Text => 40,
-            Refusal::Stamps => 41,
-        }
+        r as u8
     }
 }

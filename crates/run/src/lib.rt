@@ -37,7 +37,7 @@ pub fn run(
     ensures value { ran_by board.new result ≡ ran_of board.old events.now answers.old start }
     ensures answers_after { answers.new ≡ buffer_of board.old events.now answers.old start }
 {
-    let look = board::look_over(board)?;
+    let look = board::sound_look(board)?;
     let n = count(events.len(), answers.len(), start)?;
     records::run_records(board, look, events, answers, start);
     Ok(n)

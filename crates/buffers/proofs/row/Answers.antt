@@ -3,8 +3,8 @@ use Rattle.std.proofs.Common.{arith}
 use Rattle.buffers.proofs.Rows.{space, turn, done}
 use Rattle.buffers.proofs.row.Goals as goal
 
-pub number-next-requires : goal.number-next-requires
-number-next-requires c = omega (arith, space _ _ _ c.requires c.loop-i-test.true (c.type_inv.numbers c.loop-i.i) c.loop-i.invariant)
+pub digits-next-requires : goal.digits-next-requires
+digits-next-requires c = omega (arith, space _ _ _ c.requires c.loop-i-test.true (c.type_inv.numbers c.loop-i.i) c.loop-i.invariant)
 
 pub bounds-out-next : goal.bounds-out-next
 bounds-out-next c = omega (arith, space _ _ _ c.requires c.loop-i-test.true (c.type_inv.numbers c.loop-i.i) c.loop-i.invariant)
@@ -15,7 +15,7 @@ overflow_add-next c = omega (arith, space _ _ _ c.requires c.loop-i-test.true (c
 pub loop-i-preserved : goal.loop-i-preserved
 loop-i-preserved c =
     rw c.separator.ensures
-    (turn _ _ _ c.requires c.loop-i-test.true (c.type_inv.numbers c.loop-i.i) c.loop-i.invariant c.number-next.ensures)
+    (turn _ _ _ c.requires c.loop-i-test.true (c.type_inv.numbers c.loop-i.i) c.loop-i.invariant c.digits-next.ensures)
 
 pub returns-clause-wrote : goal.returns-clause-wrote
 returns-clause-wrote c = done _ _ _ c.loop-i.invariant c.loop-i-test.false

@@ -11,12 +11,12 @@ returns-in_default c =
     let e = step_short c.args.board.now c.args.event.now c.in_default.ensures.1 in
     record { value = rw (c.into.ensures) (ap (λ (s : Stepped). s.answer) e); board_after = ap (λ (s : Stepped). s.board) e }
 
-pub returns-in-Ok-look_over : goal.returns-in-Ok-look_over
-returns-in-Ok-look_over c =
-    let seen = c.in-Ok-look_over.ensures in
+pub returns-in-Ok-sound_look : goal.returns-in-Ok-sound_look
+returns-in-Ok-sound_look c =
+    let seen = c.in-Ok-sound_look.ensures in
     let four = c.in-Ok.ensures.1 in
     let b = c.args.board.now in
-    let l = c.in-Ok-look_over.look in
+    let l = c.in-Ok-sound_look.look in
     let e : stepped (advanced c.advance.new.board c.advance.new.look c.advance.result) ≡ step_of b c.args.event.now =
     ap stepped c.advance.ensures ∙ ap (λ (e : List ℕ). stepped (advanced_of b l e)) four.same ∙ first_seen b c.args.event.now (Ok l) seen.1 four.long seen.0 in
     record { value = ap (λ (s : Stepped). s.answer) e; board_after = ap (λ (s : Stepped). s.board) e }
