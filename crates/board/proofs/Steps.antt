@@ -3,13 +3,13 @@
 -- Assumes nothing.
 use Rattle.std.specs.Prelude.{Result, Ok, Err}
 use mathlib.Core.Path.{◌≡◌, refl, sym, ap, ◌∙◌}
-use mathlib.Core.Bool.{Bool, true, false, ◌||◌, not, true≢false, ◌&&◌}
+use mathlib.Core.Bool.{Bool, true, false, true≢false, ◌&&◌}
 use mathlib.Core.List.{List}
 use Prim.Native.Nat.{ℕ, ◌*◌, ◌/◌, ◌%◌, ◌≤◌, ◌<◌}
 use native.Mathlib.Omega.{arith}
-use lib.Dec.{ltb, leb}
+use lib.Dec.{leb}
 use lib.ListN.{length, get_or}
-use borrow.Author.Tests.{eq-eqb, ne_eqb, eqb-true, lt-ltb, le-ltb, le-leb, lt-leb, ltb-true, ltb-false}
+use borrow.Author.Tests.{eq-eqb, ne_eqb, eqb-true, lt-ltb, le-ltb}
 use Rattle.bits.specs.Bits.{◌is◌}
 use Rattle.bits.proofs.Logic.{by_cases}
 use Rattle.port.specs.Rules.{levels_now, driven_of}
@@ -21,9 +21,9 @@ use Rattle.chain.specs.Chain.{most}
 use Rattle.chain.specs.Marks.{Marks, marks_of, caller_of}
 use Rattle.board.specs.declared.Board.{Board}
 use Rattle.board.specs.declared.Look.{Look}
-use Rattle.board.specs.Board.{there, size_ok, sound_all, sound_board, told_by, lines_of}
-use Rattle.board.specs.Step.{refusal, refused, step_of, place_of, value_of, answer, Stepped}
-use Rattle.board.specs.Halves.{stirs_some, seen_of, blank, unread, first_by, first_of, look_of, looked_of, advanced_of, stepped}
+use Rattle.board.specs.Board.{there, sound_all, sound_board, told_by, lines_of}
+use Rattle.board.specs.Step.{refusal, refused, step_of}
+use Rattle.board.specs.Halves.{stirs_some, seen_of, blank, unread, first_by, first_of, look_of, looked_of}
 use Rattle.board.proofs.Ways.{seen_ok, seen_err}
 use Rattle.board.proofs.Ports.{quiet}
 use Rattle.board.proofs.Halves.{size_fits, port_there}
