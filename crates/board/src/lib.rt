@@ -23,7 +23,8 @@ pub struct Board {
     pub decoder: Decoder,
 }
 
-// `request` tells who asks for an interrupt after the event: the nearest asking place + 1, or 0 for nobody.
+// An answer is its record's four numbers, as the definitions and the theorems have it (`step_of`, FourBytes, WhoIsAsking). `request` tells
+// who asks for an interrupt after the event: the nearest asking place + 1, or 0 for nobody.
 #[repr(C)]
 #[derive(Clone, Copy)]
 pub struct Answer {
@@ -141,20 +142,20 @@ impl Touched {
             Err(refusal) => code = refusal.into(),
         }
         Touched {
-            chip: chip,
-            code: code,
-            place: place,
+            chip,
+            code,
+            place,
             value: shown,
         }
     }
 }
 
-// A board of `size` chips as it comes.
+// A board of `size` chips, each of them fresh, with nothing fetched.
 pub fn blank(size: u8) -> Board
     ensures { result ≡ blank_board size }
 {
     Board {
-        size: size,
+        size,
         chips: [chip::fresh_chip(); MOST],
         decoder: Decoder { prefix: 0 },
     }
@@ -187,7 +188,7 @@ pub fn stirred(c: Chip) -> bool
 }
 
 impl Look {
-    // What is known where the chip `k` is now `c`.
+    // What is known where the chip `k` is now `c`. Inlined for the run's loop (docs/BENCHMARKS.md).
     #[tactic(auto, unfolding(crate::specs::Halves::noted_of))]
     #[inline(always)]
     pub fn noting(self, k: usize, c: Chip) -> Look
@@ -211,14 +212,14 @@ pub fn look_over(board: &Board) -> (bool, Look)
     let mut due = false;
     let mut marks = chain::unmarked();
     for (k, c) in chips[..MOST.min(n)].iter().enumerate() {
-        sound = sound & chip::sound(*c);
-        due = due | stirred(*c);
+        sound &= chip::sound(*c);
+        due |= stirred(*c);
         let more = chain::marked(marks, k, *c);
         marks = more;
     }
     let look = Look {
-        marks: marks,
-        due: due,
+        marks,
+        due,
         request: chain::caller(marks),
     };
     (sound & (n >= 1) & (n <= MOST), look)

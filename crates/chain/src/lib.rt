@@ -11,7 +11,8 @@ use chip::Chip;
 // The most chips that a chain can have.
 pub const MOST: usize = 4;
 
-// What is kept of the chips, so that who asks and who is released need no look at every port. Only the functions here know what is in it.
+// What is kept of the chips, so that who asks and who is released need no look at every port: a number for each (`mark_of`). Only the
+// functions here know what is in it.
 pub type Marks = [u8; MOST];
 
 // The decoder's small memory: 0 nothing, 1 an ED was fetched last and opened.
@@ -42,7 +43,7 @@ impl Decoder {
     }
 }
 
-// One of two numbers.
+// One of two numbers, chosen without a branch.
 fn choose(first: bool, x: u8, y: u8) -> u8
     ensures { result ≡ (if «first» then x else y) }
 {

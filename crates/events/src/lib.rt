@@ -61,7 +61,7 @@ fn obey_word(c: Chip, on_b: bool, w: Word) -> Chip
     let two = a.mode == 2;
     if on_b {
         return Chip {
-            a: a,
+            a,
             b: words::obey(b, two, w),
         };
     }
@@ -75,7 +75,8 @@ fn obey_word(c: Chip, on_b: bool, w: Word) -> Chip
     }
 }
 
-// A control byte. A refusal leaves at once, with the chip as it was.
+// A control byte. A refusal leaves at once, with the chip as it was, by the form that document 01 names for it. It and `obey_word` are
+// inlined for the run's loop (docs/BENCHMARKS.md).
 #[tactic(auto, using(crate::proofs::Ways::refused, crate::proofs::Ways::obeyed))]
 #[inline(always)]
 pub fn control(c: Chip, on_b: bool, value: u8) -> Result<Chip, Refusal>
@@ -106,7 +107,7 @@ pub fn read_data(c: Chip, on_b: bool) -> Chip
     let two = a.mode == 2;
     if on_b {
         return Chip {
-            a: a,
+            a,
             b: port::access(b, two),
         };
     }
@@ -156,6 +157,6 @@ pub fn act(c: Chip, on_b: bool, event: Event) -> Result<Acted, Refusal>
     };
     Ok(Acted {
         chip: chip::settle_chip(d),
-        shown: shown,
+        shown,
     })
 }

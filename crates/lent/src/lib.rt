@@ -25,8 +25,8 @@ pub fn step(board: &mut Board, event: &[u8]) -> Answer
         Ok(mut look) => steps::advance(board, &mut look, event),
         Err(refusal) => Answer {
             code: refusal.into(),
-            place: place,
-            value: value,
+            place,
+            value,
             request: 0,
         },
     }

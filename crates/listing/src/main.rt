@@ -52,7 +52,7 @@ impl Pages<PIECE, PAGE> for Listing {
 fn main(rt: HostRuntime) {
     let board = board::fresh(4).unwrap();
     let mut listing = Listing {
-        board: board,
+        board,
         number: 1,
         answers: station::zeros(),
     };

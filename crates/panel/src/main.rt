@@ -102,7 +102,7 @@ fn show_all(rt: &HostRuntime, board: Board) {
     let end = text::put_columns(&mut out, 0);
     if station::write_text(&mut rt.stdout(), &mut rt.stderr(), &out[..end]) {
         let mut panel = Panel {
-            board: board,
+            board,
             number: 1,
         };
         station::write_pages(

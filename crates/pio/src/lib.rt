@@ -1,5 +1,4 @@
-// The board is lent: each function takes a board that stays where its caller keeps it, calls the functions on values and stores what
-// they give. Document 01, "The board is lent to the step and altered there". The functions whose names begin with pio_ are what C and
+// The board is lent: each function takes a board that stays where its caller keeps it, and lends it on. Document 01, "The board is lent to the step and altered there". The functions whose names begin with pio_ are what C and
 // Rust link, by the names that pio_c gives them; include/pio.h says in words what each answers and refuses, and specs/Calls.antt what it
 // promises.
 #![tactic(auto)]

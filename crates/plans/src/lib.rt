@@ -68,13 +68,13 @@ fn plan_fetch(decoder: Decoder, look: Look, byte: u8) -> Plan
     let freed = freed(decoder, look.marks, byte);
     if look.due {
         return Plan::Each {
-            freed: freed,
+            freed,
             sweep: Sweep::Wake,
         };
     }
     match freed {
         Some(place) => Plan::One {
-            place: place,
+            place,
             touch: Touch::Release,
         },
         None => Plan::Nothing(Answer {
@@ -93,14 +93,14 @@ fn plan_acknowledge(request: u8) -> Plan
 {
     match request.checked_sub(1) {
         Some(place) => Plan::One {
-            place: place,
+            place,
             touch: Touch::Serve,
         },
         None => Plan::Nothing(Answer {
             code: Code::Nobody.into(),
             place: 0,
             value: 255,
-            request: request,
+            request,
         }),
     }
 }
@@ -117,7 +117,7 @@ pub fn plan(decoder: Decoder, look: Look, doing: Doing) -> Plan
         Doing::Fetch(byte) => plan_fetch(decoder, look, byte),
         Doing::Acknowledge => plan_acknowledge(look.request),
         Doing::At(place, event) => Plan::One {
-            place: place,
+            place,
             touch: Touch::Act(event),
         },
     }

@@ -1,10 +1,12 @@
 // One port of a PIO: its registers, and what each data access, strobe edge and line change makes of them. Document 01, "Data,
-// handshake, bits". What a port needs to know of the other port of its chip comes as a flag. Control words are in words; match, settling and soundness in rest.
+// handshake, bits". What a port needs to know of the other port of its chip comes as a flag. Control words are in words; match, settling
+// and soundness in rest.
 #![tactic(auto)]
 
 ghost use Rattle.std.specs.Prelude.{◌≡◌};
 ghost use Rattle.port.specs.Rules.{written, shown_of, accessed, strobed, lines_now, driven_of, levels_now, woken, served, released, cleared, fresh_port};
 
+// C lends it, with any byte in any field (include/pio.h): so modes (0 to 3) and awaited words (0 none, 1 select, 2 mask) are numbers.
 #[repr(C)]
 #[derive(Clone, Copy)]
 pub struct Port {
@@ -105,7 +107,7 @@ pub fn levels(p: Port) -> u8
     bits::levels(p.out, mask)
 }
 
-// A fetch.
+// A fetch makes the port live, where it was asked and awaits no mask.
 pub fn wake(p: Port) -> Port
     ensures { result ≡ woken p }
 {

@@ -1,4 +1,4 @@
-// All the records of a run, on a sound board with room for their answers. What is known of the board is kept in locals: an event that
+// All the records of a run, on a sound board with room for their answers. What is known of the board goes along with it: an event that
 // concerns one chip changes that chip where it lies, and a fetch that changes nothing touches no chip at all.
 #![tactic(auto)]
 
@@ -40,7 +40,7 @@ fn act(c: &mut Chip, on_b: bool, event: Event, value: u8) -> Told
 {
     let mut told = Told {
         code: Code::Done.into(),
-        value: value,
+        value,
     };
     match event {
         Event::Control(word) => match shortcuts::control(*c, on_b, word) {

@@ -71,7 +71,7 @@ pub fn write(c: Chip, on_b: bool, value: u8) -> Chip
     events::write_data(c, on_b, value)
 }
 
-// Nor does a data read, which shows the byte read.
+// A data read leaves nothing to settle either. It shows the byte read.
 #[tactic(auto, using(crate::proofs::Sound::read_is))]
 pub fn read(c: Chip, on_b: bool) -> Acted
     ensures { sound_chip c ≡ true → Ok result ≡ outcome_of (side on_b) Read c }

@@ -20,14 +20,14 @@ fn touch(c: Chip, place: u8, what: Touch, value: u8) -> Touched
             chip: chip::release_port(c, on_b),
             code: Code::Done.into(),
             place: 0,
-            value: value,
+            value,
         },
         Touch::Serve => {
             let p = chip::port_of(c, on_b);
             Touched {
                 chip: chip::serve_port(c, on_b),
                 code: Code::Answered.into(),
-                place: place,
+                place,
                 value: p.vector,
             }
         }
@@ -95,15 +95,15 @@ fn sweep_each(
     board.chips = chips;
     let request = chain::caller(marks);
     *look = Look {
-        marks: marks,
+        marks,
         due: false,
-        request: request,
+        request,
     };
     Answer {
         code: Code::Done.into(),
         place: 0,
-        value: value,
-        request: request,
+        value,
+        request,
     }
 }
 
@@ -136,8 +136,8 @@ pub fn advance(board: &mut Board, look: &mut Look, event: &[u8; 4]) -> Answer
         }
         Err(refusal) => Answer {
             code: refusal.into(),
-            place: place,
-            value: value,
+            place,
+            value,
             request: look.request,
         },
     }

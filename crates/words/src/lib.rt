@@ -78,8 +78,8 @@ pub fn obey(p: Port, linked: bool, w: Word) -> Port
             if masked {
                 return Port {
                     asked: enable,
-                    all: all,
-                    high: high,
+                    all,
+                    high,
                     live: false,
                     waiting: false,
                     awaiting: 2,
@@ -88,8 +88,8 @@ pub fn obey(p: Port, linked: bool, w: Word) -> Port
             }
             Port {
                 asked: enable,
-                all: all,
-                high: high,
+                all,
+                high,
                 live: enable & p.live,
                 ..p
             }
