@@ -101,10 +101,7 @@ fn show_all(rt: &HostRuntime, board: Board) {
     let mut out = station::zeros();
     let end = text::put_columns(&mut out, 0);
     if station::write_text(&mut rt.stdout(), &mut rt.stderr(), &out[..end]) {
-        let mut panel = Panel {
-            board,
-            number: 1,
-        };
+        let mut panel = Panel { board, number: 1 };
         station::write_pages(
             &mut rt.stdin(),
             &mut rt.stdout(),
