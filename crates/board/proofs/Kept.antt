@@ -1,7 +1,7 @@
 -- What is known of the chips beside the board: its marks, its request, and whether a fetch could change it. One record on a sound board
 -- is the step, and keeps all of it.
 -- Assumes nothing.
-use Rattle.std.specs.Prelude.{Option, Some, None, Ok, if◌then◌else◌}
+use Rattle.std.specs.Prelude.{Option, Some, None, Ok, Err, if◌then◌else◌}
 use Rattle.std.specs.Result.{is_ok}
 use mathlib.Core.Path.{◌≡◌, refl, sym, ap, ap₂, ◌∙◌}
 use mathlib.Core.Bool.{Bool, true, false, ◌&&◌, ◌||◌, not, true≢false}
@@ -14,6 +14,7 @@ use lib.Seq.{take-set-lt, length_front}
 use borrow.Author.Tests.{ltb-true, eq-eqb}
 use Rattle.bits.specs.Bits.{◌is◌}
 use Rattle.bits.proofs.Logic.{by_cases}
+use Rattle.refusals.specs.declared.Refusal.{Refusal}
 use Rattle.refusals.specs.Numbers.{code_of}
 use Rattle.chip.specs.declared.Chip.{Chip}
 use Rattle.chip.specs.Chip as chip
@@ -31,7 +32,8 @@ use Rattle.board.specs.declared.Plan.TheVariants.{Nothing, One, Each}
 use Rattle.board.specs.declared.Touched.{Touched}
 use Rattle.board.specs.Board.{there, ports, sound_board}
 use Rattle.board.specs.Step.{kind_of, place_of, value_of, last_of, doing_of, Stepped, step_of}
-use Rattle.board.specs.Halves.{stirs, noted_of, early_at, read_of, freed_of, release_plan, fetch_plan, serve_plan, acknowledge_plan, plan_of, index_of, chip_at, touched_of, sweep_of, freed_chips, swept_of, changed_of, with_swept, carried, listened, advanced_of, stepped}
+use Rattle.board.specs.Halves.{stirs, noted_of, early_at, read_of, named_by, freed_of, release_plan, fetch_plan, serve_plan, acknowledge_plan, plan_of, index_of, chip_at, touched_of, sweep_of, freed_chips, swept_of, changed_of, with_swept, carried, listened, advanced_of, stepped}
+use Rattle.board.specs.Plans.{Within, Plans, EveryPlan}
 use Rattle.board.proofs.Tables.{place_there, read_is, by_read}
 use Rattle.board.proofs.Ways.{value_or}
 use Rattle.board.proofs.There.{take_within}
@@ -78,12 +80,6 @@ map_set f (x ∷ l) (suc k) c = rw (map_set f l k c)
 set_still : (l : List Chip) (k : ℕ) (c : Chip) → Still l → chip.fetch c ≡ c → Still (set l k c)
 set_still l k c h e = map_set chip.fetch l k c ∙ ap₂ (λ (m : List Chip) (x : Chip). set m k x) h e
 
--- the place of a plan is on the board
-abbrev pub Within : ℕ → Plan → Type 0
-Within n (Nothing a) = n ≡ n
-Within n (One place touch) = index_of place < n
-Within n (Each freed sweep) = n ≡ n
-
 module _ (b : Board) (l : Look) (k : Known b l) where
   pub changed_known : (place : ℕ) (t : Touched) → index_of place < b.size → Known (changed_of b l place t).board (changed_of b l place t).look
   unfolding changed_of noted_of
@@ -116,49 +112,63 @@ module _ (b : Board) (l : Look) (k : Known b l) where
   carried_known (One place touch) v h = changed_known place (touched_of (chip_at b place) place touch v) h
   carried_known (Each freed sweep) v h = swept_known freed sweep v
 
+-- ---- every plan
+module _ (b : Board) (s : sound_board b ≡ true) (row : length b.chips ≡ most) (due : Bool) where
+  place_within : (place : ℕ) → place < b.size * 2 → index_of place < b.size
+  place_within place h = omega (arith, index b s row place h)
+
+  -- a RETI's place, of a plan for one chip and of one for every chip
+  freed_plans : (t : Bool) (v : ℕ) → (t ≡ true → holder (ports b) < b.size * 2)
+      → Plans b (if due then Each (if t then Some (holder (ports b)) else None) Wake else release_plan v (caller_of (marks_of b.size b.chips)) (if t then Some (holder (ports b)) else None))
+  freed_plans true v h = by_cases due (λ d. rw d (record { there = place_within (holder (ports b)) (h refl); asked = refl })) (λ d. rw d (record { there = place_within (holder (ports b)) (h refl); asked = refl }))
+  freed_plans false v h = by_cases due (λ d. rw d (record { there = refl; asked = refl })) (λ d. rw d (record { there = refl; asked = refl }))
+
+  fetch_plans : (v : ℕ) → Plans b (fetch_plan b.decoder (looked b due) v)
+  unfolding fetch_plan freed_of
+  fetch_plans v =
+      by_cases (reti_of b.decoder v)
+      (λ t. rw (t, holder_is b.size b.chips, named_is b s row (ltb (holder (ports b)) (length (ports b))) (holder (ports b)))
+      (freed_plans (ltb (holder (ports b)) (length (ports b))) v (λ u. omega (arith, ltb-true (holder (ports b)) (length (ports b)) u, places b s row))))
+      (λ t. rw t (freed_plans false v (λ u. absurd (true≢false (sym u)))))
+
+  asker_plans : (t : Bool) (r : ℕ) → r ≡ caller_of (marks_of b.size b.chips) → (t ≡ true → asker (ports b) < b.size * 2) → Plans b (serve_plan r (if t then Some (asker (ports b)) else None))
+  asker_plans true r e h = record { there = place_within (asker (ports b)) (h refl); asked = refl }
+  asker_plans false r e h = record { there = refl; asked = e }
+
+  acknowledge_plans : Plans b (acknowledge_plan (caller_of (marks_of b.size b.chips)))
+  unfolding acknowledge_plan
+  acknowledge_plans =
+      rw (ap named_by (caller_is b.size b.chips) ∙ named_is b s row (asks (ports b)) (asker (ports b)))
+      (asker_plans (asks (ports b)) (caller_of (marks_of b.size b.chips)) refl (λ u. omega (arith, ltb-true (asker (ports b)) (length (ports b)) u, places b s row)))
+
+  module _ (e : List ℕ) where
+    doing_plans : place_of e < b.size * 2 → Plans b (plan_of b.decoder (looked b due) (doing_of e))
+    unfolding doing_of
+    doing_plans h =
+        by_cases (kind_of e is 0) (λ i. rw i (record { there = refl; asked = refl })) (λ i. rw i
+        (by_cases (kind_of e is 1) (λ j. rw j (fetch_plans (value_of e))) (λ j. rw j
+        (by_cases (kind_of e is 2) (λ m. rw m acknowledge_plans) (λ m. rw m (record { there = place_within (place_of e) h; asked = refl }))))))
+
+    pub planned : (g : Doing) → read_of b.size e ≡ Ok g → Plans b (plan_of b.decoder (looked b due) g)
+    planned g i =
+        by_read b.size e (λ r h z. absurd (true≢false (ap is_ok (sym i ∙ h))))
+        (λ a. rw (ap (value_or g) (sym i ∙ a)) (doing_plans (place_there b.size (kind_of e) (place_of e) (value_of e) (last_of e) (eq-eqb (early_at b.size e) 0 (sym (read_is b.size e) ∙ ap code_of a)))))
+
+    refused_asks : (r : Refusal) → read_of b.size e ≡ Err r → (advanced_of b (looked b due) e).answer.request ≡ caller_of (marks_of b.size b.chips)
+    unfolding advanced_of
+    refused_asks r i = rw i
+
+pub every_plan : EveryPlan
+every_plan = λ b s row due e. record { planned = planned b s row due e; refused = refused_asks b s row due e }
+
 -- ---- one record
 module _ (b : Board) (l : Look) (k : Kept b l) where
   look_is : l ≡ looked b l.due
   look_is = ap₂ (λ (ms : Marks) (r : ℕ). record { marks = ms; due = l.due; request = r }) k.known.marked k.known.asked
 
-  place_within : (place : ℕ) → place < b.size * 2 → index_of place < b.size
-  place_within place h = omega (arith, index b k.sound k.known.row place h)
-
-  freed_within : (t : Bool) (v r : ℕ) → (t ≡ true → holder (ports b) < b.size * 2) → Within b.size (release_plan v r (if t then Some (holder (ports b)) else None))
-  freed_within true v r h = place_within (holder (ports b)) (h refl)
-  freed_within false v r h = refl
-
-  fetch_within : (v : ℕ) → Within b.size (fetch_plan b.decoder (looked b l.due) v)
-  unfolding fetch_plan freed_of
-  fetch_within v =
-      by_cases l.due (λ d. rw d) (λ d. rw d
-      (by_cases (reti_of b.decoder v)
-      (λ t. rw (t, holder_is b.size b.chips, named_is b k.sound k.known.row (ltb (holder (ports b)) (length (ports b))) (holder (ports b)))
-      (freed_within (ltb (holder (ports b)) (length (ports b))) v _ (λ u. omega (arith, ltb-true (holder (ports b)) (length (ports b)) u, places b k.sound k.known.row))))
-      (λ t. rw t)))
-
-  asker_within : (t : Bool) (r : ℕ) → (t ≡ true → asker (ports b) < b.size * 2) → Within b.size (serve_plan r (if t then Some (asker (ports b)) else None))
-  asker_within true r h = place_within (asker (ports b)) (h refl)
-  asker_within false r h = refl
-
-  acknowledge_within : Within b.size (acknowledge_plan (caller_of (marks_of b.size b.chips)))
-  unfolding acknowledge_plan
-  acknowledge_within =
-      rw (caller_is b.size b.chips, named_is b k.sound k.known.row (asks (ports b)) (asker (ports b)))
-      (asker_within (asks (ports b)) _ (λ u. omega (arith, ltb-true (asker (ports b)) (length (ports b)) u, places b k.sound k.known.row)))
-
   module _ (e : List ℕ) where
-    doing_within : place_of e < b.size * 2 → Within b.size (plan_of b.decoder (looked b l.due) (doing_of e))
-    unfolding doing_of
-    doing_within h =
-        by_cases (kind_of e is 0) (λ i. rw i) (λ i. rw i
-        (by_cases (kind_of e is 1) (λ j. rw j (fetch_within (value_of e))) (λ j. rw j
-        (by_cases (kind_of e is 2) (λ m. rw m acknowledge_within) (λ m. rw m (place_within (place_of e) h))))))
-
     pub planned_within : (g : Doing) → read_of b.size e ≡ Ok g → Within b.size (plan_of b.decoder (looked b l.due) g)
-    planned_within g i =
-        by_read b.size e (λ r h z. absurd (true≢false (ap is_ok (sym i ∙ h))))
-        (λ a. rw (ap (value_or g) (sym i ∙ a)) (doing_within (place_there b.size (kind_of e) (place_of e) (value_of e) (last_of e) (eq-eqb (early_at b.size e) 0 (sym (read_is b.size e) ∙ ap code_of a)))))
+    planned_within g i = (planned b k.sound k.known.row l.due e g i).there
 
     still_known : Known (advanced_of b l e).board (advanced_of b l e).look
     unfolding advanced_of

@@ -1,3 +1,4 @@
 pub mod Board
 pub mod Step
 pub mod Halves
+pub mod Plans

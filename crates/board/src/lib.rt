@@ -7,6 +7,7 @@ ghost use Rattle.std.specs.Prelude.{◌≡◌, length};
 ghost use Rattle.chain.specs.Chain.{most};
 ghost use Rattle.board.specs.Board.{blank_board, made_by, fresh_of, told_by, lines_of};
 ghost use Rattle.board.specs.Step.{byte_of, bytes_of};
+ghost use Rattle.board.specs.Plans.{EveryPlan};
 ghost use Rattle.board.specs.Halves.{acted_of, stirs_port, stirs, looked_of, seen_of, noted_of};
 
 use chain::{Decoder, MOST, Marks};
@@ -253,3 +254,9 @@ pub fn driven_lines(board: &Board, place: usize) -> Result<Lines, Refusal>
         driven: port::driven(p),
     })
 }
+
+// Does nothing. Its contract: what holds of every plan on a sound board.
+#[tactic(auto, using(crate::proofs::Kept::every_plan))]
+fn every_plan()
+    ensures { EveryPlan }
+{}

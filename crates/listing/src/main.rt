@@ -2,16 +2,17 @@
 // is made by `put`, whose contract says it byte for byte; `station` reads and writes.
 #![tactic(auto)]
 
-ghost use Rattle.std.specs.Prelude.{◌≡◌, ◌+◌, ◌/◌, ◌%◌, ◌^◌, ◌≤◌, true, length};
+ghost use Rattle.std.specs.Prelude.{◌≡◌, ◌+◌, ◌/◌, ◌%◌, ◌^◌, ◌≤◌, true, length, IsTrue};
 ghost use Rattle.buffers.specs.Splice.{Wrote};
-ghost use Rattle.station.specs.Pages.{GoesOn};
-ghost use Rattle.board.specs.Board.{sound_board};
+ghost use Rattle.station.specs.Pages.{GoesOn, Shown};
+ghost use Rattle.board.specs.Board.{sound_board, fresh_of};
 ghost use Rattle.records.specs.Records.{records, steps_of};
 ghost use Rattle.listing.specs.Text.{text_of};
 ghost use Rattle.listing.specs.declared.TheConstants.{PIECE};
 
 use board::Board;
 use station::Pages;
+use std::io::{Read, Write};
 
 // The bytes of 4,096 records.
 const PIECE: usize = 16384;
@@ -48,8 +49,11 @@ impl Pages<PIECE, PAGE> for Listing {
     }
 }
 
+// Lists what comes, for a fresh board of four and from line 1 on. Answers whether all was read and taken.
 #[tactic(auto, using(crate::proofs::Answers::made, crate::proofs::Answers::made_sound))]
-fn main(rt: HostRuntime) {
+fn list_all<R: Read, O: Write, E: Write>(stdin: &mut R, stdout: &mut O, stderr: &mut E) -> bool
+    ensures { IsTrue result → Shown (text_of (fresh_of 4).board 1) (R.remaining stdin.old) (R.remaining stdin.new) (O.contents stdout.old) (O.contents stdout.new) }
+{
     let board = board::fresh(4).unwrap();
     let mut listing = Listing {
         board,
@@ -57,11 +61,15 @@ fn main(rt: HostRuntime) {
         answers: station::zeros(),
     };
     station::write_pages(
-        &mut rt.stdin(),
-        &mut rt.stdout(),
-        &mut rt.stderr(),
+        stdin,
+        stdout,
+        stderr,
         &mut station::zeros(),
         &mut station::zeros(),
         &mut listing,
-    );
+    )
+}
+
+fn main(rt: HostRuntime) {
+    list_all(&mut rt.stdin(), &mut rt.stdout(), &mut rt.stderr());
 }

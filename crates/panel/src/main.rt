@@ -2,13 +2,14 @@
 // each place. The text of what has come is made by `put`, whose contract says it byte for byte; `station` reads and writes.
 #![tactic(auto)]
 
-ghost use Rattle.std.specs.Prelude.{◌≡◌, ◌+◌, ◌/◌, ◌%◌, ◌^◌, ◌≤◌, length, take};
+ghost use Rattle.std.specs.Prelude.{◌≡◌, ◌+◌, ◌/◌, ◌%◌, ◌^◌, ◌≤◌, ◌++◌, length, take, IsTrue};
 ghost use Rattle.buffers.specs.Splice.{if_room, Wrote};
-ghost use Rattle.station.specs.Pages.{GoesOn};
+ghost use Rattle.station.specs.Pages.{GoesOn, Shown};
 ghost use Rattle.chain.specs.Chain.{flat};
 ghost use Rattle.board.specs.Step.{step_of};
 ghost use Rattle.records.specs.Records.{records, steps_of};
 ghost use Rattle.text.specs.Listing.{after};
+ghost use Rattle.text.specs.Panel.{columns};
 ghost use Rattle.panel.specs.Text.{place_line, places_of, page_of, text_of};
 
 use board::{Board, Lines};
@@ -17,8 +18,7 @@ use chip::Chip;
 use port::Port;
 use refusals::Refusal;
 use station::Pages;
-use std::io::Write;
-use std::rt::Env;
+use std::io::{Read, Write};
 
 // The bytes of 64 records.
 const PIECE: usize = 256;
@@ -96,29 +96,29 @@ impl Pages<PIECE, PAGE> for Panel {
     }
 }
 
-// The columns' names, and then what comes.
-fn show_all(rt: &HostRuntime, board: Board) {
+// The columns' names, and then what comes, from line 1 on. Answers whether all was read and taken.
+fn show_all<R: Read, O: Write, E: Write>(
+    stdin: &mut R,
+    stdout: &mut O,
+    stderr: &mut E,
+    board: Board,
+) -> bool
+    ensures { IsTrue result → Shown (λ input. columns ++ text_of board 1 input) (R.remaining stdin.old) (R.remaining stdin.new) (O.contents stdout.old) (O.contents stdout.new) }
+{
     let mut out = station::zeros();
     let end = text::put_columns(&mut out, 0);
-    if station::write_text(&mut rt.stdout(), &mut rt.stderr(), &out[..end]) {
-        let mut panel = Panel { board, number: 1 };
-        station::write_pages(
-            &mut rt.stdin(),
-            &mut rt.stdout(),
-            &mut rt.stderr(),
-            &mut station::zeros(),
-            &mut out,
-            &mut panel,
-        );
+    if !station::write_text(stdout, stderr, &out[..end]) {
+        return false;
     }
-}
-
-// The size that the program's argument asks for; more arguments ask for none.
-fn size_asked(rt: &impl Env) -> Result<usize, Refusal> {
-    if station::arg_count(rt) > 2 {
-        return Err(Refusal::Size);
-    }
-    station::size_asked(rt, 1)
+    let mut panel = Panel { board, number: 1 };
+    station::write_pages(
+        stdin,
+        stdout,
+        stderr,
+        &mut station::zeros(),
+        &mut out,
+        &mut panel,
+    )
 }
 
 // There is no board of that size.
@@ -129,8 +129,10 @@ fn refuse(stderr: &mut impl Write, refusal: Refusal) {
 }
 
 fn main(rt: HostRuntime) {
-    match size_asked(&rt).and_then(board::fresh) {
-        Ok(board) => show_all(&rt, board),
+    match station::size_asked(&rt, 1).and_then(board::fresh) {
+        Ok(board) => {
+            show_all(&mut rt.stdin(), &mut rt.stdout(), &mut rt.stderr(), board);
+        }
         Err(refusal) => refuse(&mut rt.stderr(), refusal),
     }
 }

@@ -7,7 +7,7 @@ ghost use Rattle.std.specs.Io.KnownBytes.{Appends, Consumes, Keeps};
 ghost use Rattle.buffers.specs.Splice.{Wrote};
 ghost use Rattle.station.specs.Zeros.{zeros_of};
 ghost use Rattle.station.specs.Pages.{GoesOn, Shown};
-ghost use Rattle.station.specs.Failures.{why_of};
+ghost use Rattle.station.specs.Failures.{why_of, Said};
 
 use refusals::Refusal;
 use std::env::FillError;
@@ -33,16 +33,17 @@ pub fn why(words: &str) -> &str
     }
 }
 
-// Says what failed and why.
-pub fn fail<W: Write>(stderr: &mut W, what: &[u8], error: Error) {
+// Says what failed and why, until a write fails. Answers whether all of it was said.
+pub fn fail<W: Write>(stderr: &mut W, what: &[u8], error: Error) -> bool
+    ensures { IsTrue result → Said (W.contents stderr.old) (W.contents stderr.new) what.now }
+{
     let mut words = Cursor::new([0u8; 128]);
     let _ = write!(words, "{error}");
     let bytes = words.into_inner();
     let text = std::str::from_utf8(&bytes)
         .unwrap_or("")
         .trim_end_matches('\0');
-    let _ = stderr.write_all(what);
-    let _ = writeln!(stderr, ": {}", why(text));
+    stderr.write_all(what).is_ok() && writeln!(stderr, ": {}", why(text)).is_ok()
 }
 
 // Writes the text, and answers whether all of it was taken. A reader that has left is no failure to speak of.
@@ -60,21 +61,17 @@ pub fn write_text<O: Write, E: Write>(stdout: &mut O, stderr: &mut E, text: &[u8
     }
 }
 
-// How many words the program was started with, its own name among them.
-pub fn arg_count(rt: &impl Env) -> usize {
-    for i in 0..usize::MAX {
-        if let Err(FillError::NotPresent) = rt.arg(i, &mut []) {
-            return i;
-        }
-    }
-    usize::MAX
-}
-
-// The size that an argument asks for: 4 without one, and refused where it is no size.
+// The size that the last argument asks for: 4 without one, and refused where it is no size or another argument comes after it.
 #[tactic(auto, using(crate::proofs::Sizes::asked))]
 pub fn size_asked(rt: &impl Env, argument: usize) -> Result<usize, Refusal>
     ensures { MatchResult result (λ n. (1 ≤ n) × (n ≤ 4)) (λ r. r ≡ Refusal.Size) }
 {
+    if !matches!(
+        rt.arg(argument.saturating_add(1), &mut []),
+        Err(FillError::NotPresent)
+    ) {
+        return Err(Refusal::Size);
+    }
     let mut word = [0u8; 4096];
     match rt.arg(argument, &mut word) {
         Ok(n) => text::size_in(&word[..n]),

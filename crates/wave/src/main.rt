@@ -8,6 +8,7 @@ ghost use Rattle.refusals.specs.Numbers.{number_of};
 ghost use Rattle.wave.specs.Text.{kept_of, next_from, SameBefore, ReadInParts, ByOwnLength, waved_by, wave_of, buffer_of, refusal_line};
 
 use refusals::Refusal;
+use std::env::FillError;
 use std::io::{Error, ErrorKind, Read, Write};
 use std::rt::{Env, Files};
 use std::{fs, io};
@@ -100,6 +101,12 @@ fn read_named(rt: &impl Files, path: &[u8], buffer: &mut [u8]) -> io::Result<usi
     read_all(&mut fs::open(rt, name)?, buffer)
 }
 
+// Says what failed and why. The second is said even where the first could not be written.
+fn fail(stderr: &mut impl Write, what: &[u8], error: Error) {
+    let _ = stderr.write_all(what);
+    station::fail(stderr, b"", error);
+}
+
 // Reads the file that an argument of the program names. One that cannot be read is named.
 fn read_file(
     rt: &(impl Env + Files),
@@ -118,7 +125,7 @@ fn read_file(
     match read {
         Ok(count) => Some(count),
         Err(error) => {
-            station::fail(stderr, &path[..end], error);
+            fail(stderr, &path[..end], error);
             None
         }
     }
@@ -170,7 +177,7 @@ fn refuse(stderr: &mut impl Write, refusal: Refusal) {
     let _ = stderr.write_all(&line[..end]);
 }
 
-// Makes the text and writes it, or says the refusal.
+// Makes the text and writes it, or says the refusal. A reader that has left is no failure to speak of.
 fn show(
     stdout: &mut impl Write,
     stderr: &mut impl Write,
@@ -181,7 +188,11 @@ fn show(
     let mut out = station::zeros::<PAGE>();
     match size.and_then(|size| make_text(size, events, stamps, &mut out)) {
         Ok(end) => {
-            let _ = station::write_text(stdout, stderr, &out[..end]);
+            if let Err(error) = stdout.write_all(&out[..end])
+                && error.kind() != ErrorKind::BrokenPipe
+            {
+                fail(stderr, b"standard output", error);
+            }
         }
         Err(refusal) => refuse(stderr, refusal),
     }
@@ -211,9 +222,13 @@ fn export_files(
     show(stdout, stderr, size, &events[..n], &stamps[..m]);
 }
 
+// Whether the program was started with that argument.
+fn is_given(rt: &impl Env, argument: usize) -> bool {
+    !matches!(rt.arg(argument, &mut []), Err(FillError::NotPresent))
+}
+
 fn main(rt: HostRuntime) {
-    let count = station::arg_count(&rt);
-    if (count < 3) | (count > 4) {
+    if !is_given(&rt, 2) | is_given(&rt, 4) {
         let _ = eprintln!(rt; "usage: wave EVENTS STAMPS [SIZE]");
         return;
     }
