@@ -38,7 +38,6 @@ use Rattle.board.specs.declared.Board.{Board}
 use Rattle.board.specs.declared.Answer.{Answer}
 use Rattle.board.specs.declared.Doing.{Doing}
 use Rattle.board.specs.declared.Doing.TheVariants.{Reset, Fetch, Acknowledge, At}
-use Rattle.board.specs.declared.Look.{Look}
 use Rattle.board.specs.declared.Touch.TheVariants.{Serve, Act}
 use Rattle.board.specs.declared.Sweep.TheVariants.{Clear, Wake}
 use Rattle.board.specs.declared.Plan.{Plan}
@@ -47,6 +46,7 @@ use Rattle.board.specs.declared.Touched.{Touched}
 use Rattle.board.specs.Board.{there, ports, port_at, within, sound_board, request_of}
 use Rattle.board.specs.Step.{kind_of, place_of, value_of, last_of, line, verdict, word_code, refusal, doing_of, decoder_after, taken, answer, answered, Stepped, accepted, refused, step_of}
 use Rattle.board.specs.Halves.{noted_of, early_at, read_of, named_by, freed_of, release_plan, fetch_plan, acknowledge_plan, plan_of, blank, index_of, touched, touched_by, acted_of, touched_of, changed_of, carried, listened, advanced_of, stepped, unread, halves_of}
+use Rattle.board.specs.Plans.{look_at}
 use Rattle.board.proofs.Tables.{word_lines, refusal_is, place_there, read_is, by_read, by_heard, plain, event_plain, event_control}
 use Rattle.board.proofs.Ports.{port_at_lem, none_released, none_answers, Still, fetch_free}
 use Rattle.board.proofs.There.{take_within, drop_within, within_set}
@@ -63,10 +63,6 @@ result b g v = record { board = taken b g; answer = answered b g v (request_of (
 
 abbrev held : Board → List Chip → Decoder → Answer → Stepped
 held b cs d a = record { board = record { size = b.size; chips = cs; decoder = d }; answer = a }
-
--- what is known of a board's chips
-abbrev pub looked : Board → Bool → Look
-looked b due = record { marks = marks_of b.size b.chips; due = due; request = caller_of (marks_of b.size b.chips) }
 
 step_accepts : (b : Board) (e : List ℕ) → (length e is 4) ≡ true → refusal b e ≡ 0 → step_of b e ≡ result b (doing_of e) (value_of e)
 unfolding step_of accepted
@@ -117,7 +113,7 @@ module _ (b : Board) (s : sound_board b ≡ true) (len : length b.chips ≡ most
   stays x e = sym (ap (λ (l : List Chip). l ++ drop b.size b.chips) e ∙ take-append-drop b.size b.chips)
 
   -- the chip of one place changed
-  one : (g : Doing) (due : Bool) (place : ℕ) (x : Touched) → stepped (changed_of (listened b g) (looked b due) place x)
+  one : (g : Doing) (due : Bool) (place : ℕ) (x : Touched) → stepped (changed_of (listened b g) (look_at b due) place x)
       ≡ held b (set b.chips (index_of place) x.chip) (decoder_after b.decoder g) (answer x.code x.place x.value (caller_of (marked_of (marks_of b.size b.chips) (index_of place) x.chip)))
   unfolding changed_of noted_of
   one g due place x =
@@ -125,7 +121,7 @@ module _ (b : Board) (s : sound_board b ≡ true) (len : length b.chips ≡ most
       (renewed_is (marks_of b.size b.chips) (index_of place) x.chip (caller_of (marks_of b.size b.chips)) refl)
 
   -- ---- a reset
-  does_reset : (due : Bool) (v : ℕ) → stepped (carried (listened b Reset) (looked b due) (Each None Clear) v) ≡ result b Reset v
+  does_reset : (due : Bool) (v : ℕ) → stepped (carried (listened b Reset) (look_at b due) (Each None Clear) v) ≡ result b Reset v
   unfolding carried taken
   does_reset due v = settles Reset v (within b.size (map cleaned) b.chips) (answer 0 0 v) (λ q. refl) refl
 
@@ -140,7 +136,7 @@ module _ (b : Board) (s : sound_board b ≡ true) (len : length b.chips ≡ most
   fetch_nobody v e = by_cases (reti_of b.decoder v) (λ t. rw t (ap (map chip.fetch) (none_released (there b) e))) (λ t. rw t)
 
   does_fetch : (due : Bool) (v : ℕ) → (due ≡ false → Still (there b)) → quick b.decoder (Fetch v) (there b) ≡ map chip.fetch (there b)
-      → stepped (carried (listened b (Fetch v)) (looked b due) (fetch_at due v None) v) ≡ result b (Fetch v) v
+      → stepped (carried (listened b (Fetch v)) (look_at b due) (fetch_at due v None) v) ≡ result b (Fetch v) v
   unfolding carried taken
   does_fetch true v right e = settles (Fetch v) v (within b.size (map chip.fetch) b.chips) (answer 0 0 v) (λ q. refl) (ap (λ (l : List Chip). l ++ drop b.size b.chips) (sym e))
   does_fetch false v right e = settles (Fetch v) v b.chips (answer 0 0 v) (λ q. refl) (stays (quick b.decoder (Fetch v) (there b)) (e ∙ right refl))
@@ -166,7 +162,7 @@ module _ (b : Board) (s : sound_board b ≡ true) (len : length b.chips ≡ most
       ∙ ap₂ (λ (y z : List Chip). map chip.fetch y ++ z) (take_within b.size x b.chips l) (drop_within b.size x b.chips l)
 
   does_free : (due : Bool) (v k : ℕ) → (due ≡ false → Still (there b)) → reti_of b.decoder v ≡ true → k ≡ holder (ports b) → k < b.size * 2
-      → stepped (carried (listened b (Fetch v)) (looked b due) (fetch_at due v (Some k)) v) ≡ result b (Fetch v) v
+      → stepped (carried (listened b (Fetch v)) (look_at b due) (fetch_at due v (Some k)) v) ≡ result b (Fetch v) v
   unfolding carried touched_of taken
   does_free true v k right t e h =
       rw (index k h)
@@ -181,7 +177,7 @@ module _ (b : Board) (s : sound_board b ≡ true) (len : length b.chips ≡ most
 
   -- ---- an acknowledge
   does_nobody : (due : Bool) (v : ℕ) → asks (ports b) ≡ false
-      → stepped (carried (listened b Acknowledge) (looked b due) (Nothing (answer 3 0 255 (caller_of (marks_of b.size b.chips)))) v) ≡ result b Acknowledge v
+      → stepped (carried (listened b Acknowledge) (look_at b due) (Nothing (answer 3 0 255 (caller_of (marks_of b.size b.chips)))) v) ≡ result b Acknowledge v
   unfolding carried taken
   does_nobody due v e = settles Acknowledge v b.chips (answer 3 0 255) (λ q. rw e) (stays (acknowledged (there b)) (none_answers (there b) e))
 
@@ -190,7 +186,7 @@ module _ (b : Board) (s : sound_board b ≡ true) (len : length b.chips ≡ most
   serving k e = rw e
 
   does_answer : (due : Bool) (v k : ℕ) → asks (ports b) ≡ true → k ≡ asker (ports b) → k < b.size * 2
-      → stepped (carried (listened b Acknowledge) (looked b due) (One k Serve) v) ≡ result b Acknowledge v
+      → stepped (carried (listened b Acknowledge) (look_at b due) (One k Serve) v) ≡ result b Acknowledge v
   unfolding carried touched_of taken
   does_answer due v k t e h =
       let c = get_or b.chips (index_of k) blank in
@@ -222,19 +218,19 @@ module _ (b : Board) (s : sound_board b ≡ true) (len : length b.chips ≡ most
   acts place v e c i = rw i (ap (touched_by place) (acting_is (side_of place) e v (chip_of place)))
 
   placed : (due : Bool) (place v : ℕ) (e : Event) → place < b.size * 2
-      → stepped (carried (listened b (At place e)) (looked b due) (One place (Act e)) v)
+      → stepped (carried (listened b (At place e)) (look_at b due) (One place (Act e)) v)
       ≡ held b (set b.chips (place / 2) (acting place e v).chip) b.decoder
       (answer (acting place e v).code place (acting place e v).value (caller_of (marked_of (marks_of b.size b.chips) (place / 2) (acting place e v).chip)))
   unfolding carried
   placed due place v e h =
-      ap (λ (x : Touched). stepped (changed_of (listened b (At place e)) (looked b due) place x))
+      ap (λ (x : Touched). stepped (changed_of (listened b (At place e)) (look_at b due) place x))
       (acts place v e (get_or b.chips (index_of place) blank) (ap (λ (k : ℕ). get_or b.chips k blank) (index place h)))
       ∙ one (At place e) due place (acting place e v)
       ∙ rw (index place h)
 
   does_at : (due : Bool) (place v : ℕ) (e : Event) → place < b.size * 2
       → ((q : ℕ) → answer (code_at (side_of place) e (chip_of place)) place (value_at (side_of place) e v (chip_of place)) q ≡ answered b (At place e) v q)
-      → stepped (carried (listened b (At place e)) (looked b due) (One place (Act e)) v) ≡ result b (At place e) v
+      → stepped (carried (listened b (At place e)) (look_at b due) (One place (Act e)) v) ≡ result b (At place e) v
   unfolding taken
   does_at due place v e h p =
       placed due place v e h
@@ -244,7 +240,7 @@ module _ (b : Board) (s : sound_board b ≡ true) (len : length b.chips ≡ most
   -- a control byte that is refused
   does_nothing : (due : Bool) (place v w code : ℕ) → place < b.size * 2
       → code_of (heard (side_of place) w (chip_of place)) ≡ code → step_word (side_of place) (heard (side_of place) w (chip_of place)) (chip_of place) ≡ chip_of place
-      → stepped (carried (listened b (At place (Control w))) (looked b due) (One place (Act (Control w))) v) ≡ record { board = b; answer = answer code place v (request_of b) }
+      → stepped (carried (listened b (At place (Control w))) (look_at b due) (One place (Act (Control w))) v) ≡ record { board = b; answer = answer code place v (request_of b) }
   unfolding step
   does_nothing due place v w code h c i =
       placed due place v (Control w) h
@@ -265,7 +261,7 @@ module _ (b : Board) (s : sound_board b ≡ true) (len : length b.chips ≡ most
 
   module _ (due : Bool) (right : due ≡ false → Still (there b)) (e : List ℕ) (l : (length e is 4) ≡ true) where
     abbrev ends : Doing → Stepped
-    ends g = stepped (carried (listened b g) (looked b due) (plan_of b.decoder (looked b due) g) (value_of e))
+    ends g = stepped (carried (listened b g) (look_at b due) (plan_of b.decoder (look_at b due) g) (value_of e))
 
     refuses : (r : Refusal) → read_of b.size e ≡ Err r → (number_of r is 0) ≡ false → record { board = b; answer = answer (number_of r) (place_of e) (value_of e) (caller_of (marks_of b.size b.chips)) } ≡ step_of b e
     refuses r h z =
@@ -289,7 +285,7 @@ module _ (b : Board) (s : sound_board b ≡ true) (len : length b.chips ≡ most
       not_three : (m : ℕ) → (m is 3) ≡ false → (kind_of e is m) ≡ true → (kind_of e is 3) ≡ false
       not_three m n k = rw (eqb-true (kind_of e) m k) n
 
-      fetches : (v : ℕ) → stepped (carried (listened b (Fetch v)) (looked b due) (fetch_plan b.decoder (looked b due) v) v) ≡ result b (Fetch v) v
+      fetches : (v : ℕ) → stepped (carried (listened b (Fetch v)) (look_at b due) (fetch_plan b.decoder (look_at b due) v) v) ≡ result b (Fetch v) v
       unfolding fetch_plan freed_of
       fetches v =
           by_cases (reti_of b.decoder v)
@@ -307,13 +303,13 @@ module _ (b : Board) (s : sound_board b ≡ true) (len : length b.chips ≡ most
       unfolding doing_of
       by_reset k = takes Reset (rw k) (not_three 0 refl k) (does_reset due (value_of e))
 
-      acknowledges : (v : ℕ) → stepped (carried (listened b Acknowledge) (looked b due) (acknowledge_plan (caller_of (marks_of b.size b.chips))) v) ≡ result b Acknowledge v
+      acknowledges : (v : ℕ) → stepped (carried (listened b Acknowledge) (look_at b due) (acknowledge_plan (caller_of (marks_of b.size b.chips))) v) ≡ result b Acknowledge v
       unfolding acknowledge_plan
       acknowledges v =
           by_cases (asks (ports b))
-          (λ t. ap (λ (p : Plan). stepped (carried (listened b Acknowledge) (looked b due) p v)) (rw (caller_is b.size b.chips, named_is (asks (ports b)) (asker (ports b)), t))
+          (λ t. ap (λ (p : Plan). stepped (carried (listened b Acknowledge) (look_at b due) p v)) (rw (caller_is b.size b.chips, named_is (asks (ports b)) (asker (ports b)), t))
           ∙ does_answer due v (asker (ports b)) t refl (omega (arith, ltb-true (asker (ports b)) (length (ports b)) t, places)))
-          (λ t. ap (λ (p : Plan). stepped (carried (listened b Acknowledge) (looked b due) p v)) (rw (caller_is b.size b.chips, named_is (asks (ports b)) (asker (ports b)), t))
+          (λ t. ap (λ (p : Plan). stepped (carried (listened b Acknowledge) (look_at b due) p v)) (rw (caller_is b.size b.chips, named_is (asks (ports b)) (asker (ports b)), t))
           ∙ does_nobody due v t)
 
       by_acknowledge : (kind_of e is 2) ≡ true → ends (doing_of e) ≡ step_of b e
@@ -361,10 +357,10 @@ module _ (b : Board) (s : sound_board b ≡ true) (len : length b.chips ≡ most
           by_cases (kind_of e is 0) by_reset (λ i.
           by_cases (kind_of e is 2) by_acknowledge (by_place i j)))
 
-    four : stepped (advanced_of b (looked b due) e) ≡ step_of b e
+    four : stepped (advanced_of b (look_at b due) e) ≡ step_of b e
     unfolding advanced_of
     four = by_read b.size e (λ r h z. rw h (refuses r h z)) (λ a. rw a (goes_on a))
 
   -- THE HALVES ARE THE STEP
-  pub halves : (due : Bool) → (due ≡ false → Still (there b)) → (e : List ℕ) → halves_of b (looked b due) e ≡ step_of b e
+  pub halves : (due : Bool) → (due ≡ false → Still (there b)) → (e : List ℕ) → halves_of b (look_at b due) e ≡ step_of b e
   halves due right e = by_cases (length e is 4) (λ n. rw n (four due right e n)) (λ n. rw n (short e n))

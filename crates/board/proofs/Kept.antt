@@ -33,13 +33,13 @@ use Rattle.board.specs.declared.Touched.{Touched}
 use Rattle.board.specs.Board.{there, ports, sound_board}
 use Rattle.board.specs.Step.{kind_of, place_of, value_of, last_of, doing_of, Stepped, step_of}
 use Rattle.board.specs.Halves.{stirs, noted_of, early_at, read_of, named_by, freed_of, release_plan, fetch_plan, serve_plan, acknowledge_plan, plan_of, index_of, chip_at, touched_of, sweep_of, freed_chips, swept_of, changed_of, with_swept, carried, listened, advanced_of, stepped}
-use Rattle.board.specs.Plans.{Within, Plans, EveryPlan}
+use Rattle.board.specs.Plans.{Within, Plans, EveryPlan, look_at}
 use Rattle.board.proofs.Tables.{place_there, read_is, by_read}
 use Rattle.board.proofs.Ways.{value_or}
 use Rattle.board.proofs.There.{take_within}
 use Rattle.board.proofs.Quick.{step_sound}
 use Rattle.board.proofs.Ports.{Still, neither, quiet_chip}
-use Rattle.board.proofs.Halves.{places, index, named_is, looked, halves}
+use Rattle.board.proofs.Halves.{places, index, named_is, halves}
 
 -- what is known is right
 pub record Known (b : Board) (l : Look) : Type 0 where
@@ -123,7 +123,7 @@ module _ (b : Board) (s : sound_board b ≡ true) (row : length b.chips ≡ most
   freed_plans true v h = by_cases due (λ d. rw d (record { there = place_within (holder (ports b)) (h refl); asked = refl })) (λ d. rw d (record { there = place_within (holder (ports b)) (h refl); asked = refl }))
   freed_plans false v h = by_cases due (λ d. rw d (record { there = refl; asked = refl })) (λ d. rw d (record { there = refl; asked = refl }))
 
-  fetch_plans : (v : ℕ) → Plans b (fetch_plan b.decoder (looked b due) v)
+  fetch_plans : (v : ℕ) → Plans b (fetch_plan b.decoder (look_at b due) v)
   unfolding fetch_plan freed_of
   fetch_plans v =
       by_cases (reti_of b.decoder v)
@@ -142,19 +142,19 @@ module _ (b : Board) (s : sound_board b ≡ true) (row : length b.chips ≡ most
       (asker_plans (asks (ports b)) (caller_of (marks_of b.size b.chips)) refl (λ u. omega (arith, ltb-true (asker (ports b)) (length (ports b)) u, places b s row)))
 
   module _ (e : List ℕ) where
-    doing_plans : place_of e < b.size * 2 → Plans b (plan_of b.decoder (looked b due) (doing_of e))
+    doing_plans : place_of e < b.size * 2 → Plans b (plan_of b.decoder (look_at b due) (doing_of e))
     unfolding doing_of
     doing_plans h =
         by_cases (kind_of e is 0) (λ i. rw i (record { there = refl; asked = refl })) (λ i. rw i
         (by_cases (kind_of e is 1) (λ j. rw j (fetch_plans (value_of e))) (λ j. rw j
         (by_cases (kind_of e is 2) (λ m. rw m acknowledge_plans) (λ m. rw m (record { there = place_within (place_of e) h; asked = refl }))))))
 
-    pub planned : (g : Doing) → read_of b.size e ≡ Ok g → Plans b (plan_of b.decoder (looked b due) g)
+    pub planned : (g : Doing) → read_of b.size e ≡ Ok g → Plans b (plan_of b.decoder (look_at b due) g)
     planned g i =
         by_read b.size e (λ r h z. absurd (true≢false (ap is_ok (sym i ∙ h))))
         (λ a. rw (ap (value_or g) (sym i ∙ a)) (doing_plans (place_there b.size (kind_of e) (place_of e) (value_of e) (last_of e) (eq-eqb (early_at b.size e) 0 (sym (read_is b.size e) ∙ ap code_of a)))))
 
-    refused_asks : (r : Refusal) → read_of b.size e ≡ Err r → (advanced_of b (looked b due) e).answer.request ≡ caller_of (marks_of b.size b.chips)
+    refused_asks : (r : Refusal) → read_of b.size e ≡ Err r → (advanced_of b (look_at b due) e).answer.request ≡ caller_of (marks_of b.size b.chips)
     unfolding advanced_of
     refused_asks r i = rw i
 
@@ -163,11 +163,11 @@ every_plan = λ b s row due e. record { planned = planned b s row due e; refused
 
 -- ---- one record
 module _ (b : Board) (l : Look) (k : Kept b l) where
-  look_is : l ≡ looked b l.due
+  look_is : l ≡ look_at b l.due
   look_is = ap₂ (λ (ms : Marks) (r : ℕ). record { marks = ms; due = l.due; request = r }) k.known.marked k.known.asked
 
   module _ (e : List ℕ) where
-    pub planned_within : (g : Doing) → read_of b.size e ≡ Ok g → Within b.size (plan_of b.decoder (looked b l.due) g)
+    pub planned_within : (g : Doing) → read_of b.size e ≡ Ok g → Within b.size (plan_of b.decoder (look_at b l.due) g)
     planned_within g i = (planned b k.sound k.known.row l.due e g i).there
 
     still_known : Known (advanced_of b l e).board (advanced_of b l e).look
