@@ -129,7 +129,7 @@ fn refuse(stderr: &mut impl Write, refusal: Refusal) {
 }
 
 fn main(rt: HostRuntime) {
-    match station::size_asked(&rt, 1).and_then(board::fresh) {
+    match station::last_size_asked(&rt, 1).and_then(board::fresh) {
         Ok(board) => {
             show_all(&mut rt.stdin(), &mut rt.stdout(), &mut rt.stderr(), board);
         }

@@ -61,9 +61,31 @@ pub fn write_text<O: Write, E: Write>(stdout: &mut O, stderr: &mut E, text: &[u8
     }
 }
 
-// The size that the last argument asks for: 4 without one, and refused where it is no size or another argument comes after it.
+// How many words the program was started with, its own name among them: as many as stand before the first that is not there.
+pub fn arg_count(rt: &impl Env) -> usize {
+    for i in 0..usize::MAX {
+        if let Err(FillError::NotPresent) = rt.arg(i, &mut []) {
+            return i;
+        }
+    }
+    usize::MAX
+}
+
+// The size that an argument asks for: 4 without one, and refused where it is no size.
 #[tactic(auto, using(crate::proofs::Sizes::asked))]
 pub fn size_asked(rt: &impl Env, argument: usize) -> Result<usize, Refusal>
+    ensures { MatchResult result (λ n. (1 ≤ n) × (n ≤ 4)) (λ r. r ≡ Refusal.Size) }
+{
+    let mut word = [0u8; 4096];
+    match rt.arg(argument, &mut word) {
+        Ok(n) => text::size_in(&word[..n]),
+        Err(FillError::NotPresent) => Ok(4),
+        Err(FillError::TooLong) => Err(Refusal::Size),
+    }
+}
+
+// The size that the last argument asks for: 4 without one, and refused where it is no size or another argument comes after it.
+pub fn last_size_asked(rt: &impl Env, argument: usize) -> Result<usize, Refusal>
     ensures { MatchResult result (λ n. (1 ≤ n) × (n ≤ 4)) (λ r. r ≡ Refusal.Size) }
 {
     if !matches!(
@@ -72,12 +94,7 @@ pub fn size_asked(rt: &impl Env, argument: usize) -> Result<usize, Refusal>
     ) {
         return Err(Refusal::Size);
     }
-    let mut word = [0u8; 4096];
-    match rt.arg(argument, &mut word) {
-        Ok(n) => text::size_in(&word[..n]),
-        Err(FillError::NotPresent) => Ok(4),
-        Err(FillError::TooLong) => Err(Refusal::Size),
-    }
+    size_asked(rt, argument)
 }
 
 // Reads what has come, and then the rest of its last record; the buffer takes whole records alone. Answers how many bytes there are:
@@ -146,4 +163,72 @@ pub fn write_pages<
         }
     }
     false
+}
+
+#[cfg(test)]
+mod tests {
+    use super::*;
+
+    // A program that was started with these words.
+    #[derive(Drop)]
+    struct Started<'a> {
+        words: &'a [&'a [u8]],
+    }
+
+    impl Env for Started<'_> {
+        fn arg(&self, i: usize, buf: &mut [u8]) -> Result<usize, FillError> {
+            let Some(word) = self.words.get(i) else {
+                return Err(FillError::NotPresent);
+            };
+            if word.len() > buf.len() {
+                return Err(FillError::TooLong);
+            }
+            buf[..word.len()].copy_from_slice(word);
+            Ok(word.len())
+        }
+
+        fn var(&self, _name: &str, _buf: &mut [u8]) -> Result<usize, FillError> {
+            Err(FillError::NotPresent)
+        }
+
+        fn var_at(&self, _i: usize, _buf: &mut [u8]) -> Result<usize, FillError> {
+            Err(FillError::NotPresent)
+        }
+    }
+
+    #[test]
+    fn words_are_counted(rt: HostRuntime) {
+        let words: [&[u8]; 4] = [b"wave", b"events", b"", b"2"];
+        for count in 0..5 {
+            let started = Started {
+                words: &words[..count],
+            };
+            assert_eq!(rt; arg_count(&started), count);
+        }
+    }
+
+    #[test]
+    fn a_size_is_asked_for(rt: HostRuntime) {
+        let long = [b'1'; 4097];
+        let words: [&[u8]; 8] = [b"panel", b"2", b"4", b"", b"5", b"two", &long, b"3"];
+        let started = Started { words: &words };
+        for (argument, size, last) in [
+            (1, Some(2), None),
+            (2, Some(4), None),
+            (3, None, None),
+            (4, None, None),
+            (5, None, None),
+            (6, None, None),
+            (7, Some(3), Some(3)),
+            (8, Some(4), Some(4)),
+            (usize::MAX, Some(4), Some(4)),
+        ] {
+            assert_eq!(rt; size_asked(&started, argument).ok(), size, "at {argument}");
+            assert_eq!(rt;
+                last_size_asked(&started, argument).ok(),
+                last,
+                "the last at {argument}"
+            );
+        }
+    }
 }

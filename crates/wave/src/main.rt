@@ -236,6 +236,6 @@ fn main(rt: HostRuntime) {
         &rt,
         &mut rt.stdout(),
         &mut rt.stderr(),
-        station::size_asked(&rt, 3),
+        station::last_size_asked(&rt, 3),
     );
 }
