@@ -210,15 +210,15 @@ mod tests {
     #[test]
     fn a_size_is_asked_for(rt: HostRuntime) {
         let long = [b'1'; 4097];
-        let words: [&[u8]; 8] = [b"panel", b"2", b"4", b"", b"5", b"two", &long, b"3"];
+        let words: [&[u8]; 8] = [b"panel", b"2", b"", b"5", b"two", &long, b"4", b"3"];
         let started = Started { words: &words };
         for (argument, size, last) in [
             (1, Some(2), None),
-            (2, Some(4), None),
+            (2, None, None),
             (3, None, None),
             (4, None, None),
             (5, None, None),
-            (6, None, None),
+            (6, Some(4), None),
             (7, Some(3), Some(3)),
             (8, Some(4), Some(4)),
             (usize::MAX, Some(4), Some(4)),
